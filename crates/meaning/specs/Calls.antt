@@ -1,0 +1,146 @@
+-- The calls (document 01, "Calls and numbers"): for each, its answer on every input and what it leaves in each lent slice.
+-- The rule check, the writer and the maker stand with their own headings. Every call here takes the rule as the bytes of
+-- its file.
+use Prim.Native.Nat.{ℕ, zero, suc, _+_, _-_}
+use mathlib.Core.Bool.{Bool, true, false, not, _&&_, _||_}
+use mathlib.Core.List.{List, [], _∷_}
+use lib.ListN.{length, getD, set}
+use Rattle.meaning.specs.declared.Reading.{Reading}
+use Rattle.meaning.specs.declared.Level.{Level}
+use Rattle.meaning.specs.declared.Refusal.{Refusal}
+use Rattle.meaning.specs.declared.Verdict.{Verdict}
+use Rattle.meaning.specs.declared.Verdict.the-variants.{OffSchema, Reject, Accept}
+use Rattle.meaning.specs.declared.End.{End}
+use Rattle.meaning.specs.declared.End.the-variants as end
+use Rattle.meaning.specs.declared.Feeding.{Feeding}
+use Rattle.meaning.specs.declared.Feeding.the-variants as feeding
+use Rattle.meaning.specs.Answers.{Answer, given, refused, refuse_at_when_otherwise_, _giving_, _<?_, if_then_else_}
+use Rattle.meaning.specs.RuleFile.{Rule, isState, classOf, checkRule, ruleOf}
+use Rattle.meaning.specs.FullReading.{Turn, stays, stores, ends, blank, freshReading, Went, feedBy}
+use Rattle.meaning.specs.SkipBook.{allBelow, makeBook, bookAfter}
+use Rattle.meaning.specs.Skipping.{settled, skipEvent}
+
+-- ---- the number and the values of each case of an answer
+
+-- the class that a verdict stands for
+unfoldable pub verdictSays : Verdict → ℕ
+verdictSays OffSchema = 0
+verdictSays Reject = 1
+verdictSays Accept = 2
+
+-- a verdict's class, and the end state
+pub record Judged : Type 0 where
+  pub class : ℕ
+  pub state : ℕ
+
+-- a refusal's number and place
+unfoldable pub refusalSays : {A : Type 0} → Refusal → Answer A
+refusalSays r = refused (r .number) (r .place)
+
+unfoldable pub endSays : End → Answer Judged
+endSays (end.Judged j) = given (record { class = verdictSays (j .verdict); state = j .state })
+endSays (end.Refused r) = refusalSays r
+
+unfoldable pub feedingSays : Feeding → Answer Unit
+feedingSays feeding.AllTaken = given tt
+feedingSays (feeding.Refused r) = refusalSays r
+
+-- ---- fresh reading
+
+unfoldable pub freshCall : List ℕ → Answer Reading
+freshCall file = checkRule file giving λ R. given (freshReading R)
+
+-- ---- a reading over the lent level store
+
+pub record Stored : Type 0 where
+  pub reading : Reading
+  pub store : List Level
+
+-- the innermost stored record, if the depth is above zero
+unfoldable pub topOf : Reading → List Level → Level
+topOf r store = getD store (r .depth - 1) blank
+
+-- Only an open that is stored writes a record, and only its own; a close clears nothing.
+unfoldable pub storedAfter : Reading → List Level → Turn → Stored
+storedAfter r store (stays r′) = record { reading = r′; store = store }
+storedAfter r store (stores l r′) = record { reading = r′; store = set store (r .depth) l }
+storedAfter r store (ends r′) = record { reading = r′; store = store }
+
+unfoldable pub storeStep : Rule → List ℕ → ℕ → Stored → ℕ → Answer Stored
+storeStep R book ceiling s e =
+    skipEvent R book (length (s .store)) ceiling (s .reading) (topOf (s .reading) (s .store)) e giving λ turn.
+    given (storedAfter (s .reading) (s .store) turn)
+
+-- ---- feed
+
+-- Number 13: state not below n; depth above the store's length; a stored state below that depth not below n; skip depth
+-- above zero on an unsettled level; depth plus skip depth above events taken; looks above events taken.
+unfoldable pub notReading : Rule → List ℕ → Reading → List Level → Bool
+notReading R book r store =
+    not (isState (R .states) (r .state))
+    || (length store <? r .depth
+    || (not (allBelow (r .depth) (λ i. isState (R .states) (getD store i blank .above)))
+    || ((0 <? r .skip && not (settled book r (topOf r store)))
+    || (r .taken <? r .depth + r .skip
+    || r .taken <? r .looks))))
+
+-- what feed and finish check first: rule, 6, 13
+unfoldable pub readingCheck : List ℕ → List ℕ → Reading → List Level → Answer Rule
+readingCheck file book r store =
+    checkRule file giving λ R.
+    refuse 6 at 0 when length book <? R .states + 1 otherwise
+    refuse 13 at 0 when notReading R book r store otherwise
+    given R
+
+unfoldable pub fedFrom : Answer Rule → List ℕ → ℕ → Stored → List ℕ → Went Stored
+fedFrom (given R) book ceiling s events = feedBy (storeStep R book ceiling) s events
+fedFrom (refused number place) book ceiling s events = record { last = s; ended = refused number place }
+
+-- the reading and the store after feeding, and how it ended; the events it took are those taken since
+unfoldable pub feedCall : List ℕ → List ℕ → ℕ → Reading → List Level → List ℕ → Went Stored
+feedCall file book ceiling r store events =
+    fedFrom (readingCheck file book r store) book ceiling (record { reading = r; store = store }) events
+
+-- ---- finish
+
+-- the opening in the innermost stored record, or the events taken if none is stored
+unfoldable pub openPlace : Reading → Level → ℕ
+openPlace r top = if 0 <? r .depth then top .opened else r .taken
+
+-- a level or skip depth still open, or else the class of the state
+unfoldable pub endOf : Rule → Reading → Level → Answer Judged
+endOf R r top =
+    refuse 12 at openPlace r top when 0 <? r .depth + r .skip otherwise
+    given (record { class = classOf R (r .state); state = r .state })
+
+unfoldable pub finishCall : List ℕ → List ℕ → Reading → List Level → Answer Judged
+finishCall file book r store = readingCheck file book r store giving λ R. endOf R r (topOf r store)
+
+-- ---- the whole-document call
+
+abbrev pub largestCeiling : ℕ
+largestCeiling = 4294967295
+
+-- the end of the reading, and what book and store then hold
+pub record Whole : Type 0 where
+  pub answer : Answer Judged
+  pub book : List ℕ
+  pub store : List Level
+
+-- after feeding: what feeding refused, or what finish answers
+unfoldable pub finishFed : List ℕ → List ℕ → Went Stored → Answer Judged
+finishFed file book w = w .ended giving λ done. finishCall file book (w .last .reading) (w .last .store)
+
+unfoldable pub readWith : List ℕ → List ℕ → List Level → List ℕ → Whole
+readWith file book store events =
+    let fed : Went Stored = feedCall file book largestCeiling (freshReading (ruleOf file)) store events in
+    record { answer = finishFed file book fed; book = book; store = fed .last .store }
+
+unfoldable pub wholeFrom : Answer ℕ → List ℕ → List ℕ → List Level → List ℕ → Whole
+wholeFrom (given count) file book store events = readWith file (bookAfter (given count) (ruleOf file) book) store events
+wholeFrom (refused number place) file book store events =
+    record { answer = refused number place; book = book; store = store }
+
+-- the rule check, the book, feed and finish in turn, with the largest ceiling
+unfoldable pub wholeDocument : List ℕ → List ℕ → List Level → List ℕ → Whole
+wholeDocument file book store events = wholeFrom (makeBook file book) file book store events

@@ -1,0 +1,94 @@
+-- The 2024 paper's own view (document 004, sections 2, 4.1 and 9.1): hedges, their events, and the steps of a stepwise hedge
+-- automaton. Hedges are sequences of letters and trees; the paper takes them up to the laws of joining, so a hedge here is
+-- nothing, or a letter and then a hedge, or a tree and then a hedge.
+use Prim.Native.Nat.{ℕ, zero, suc, _+_, _<_}
+use mathlib.Core.Path.{_≡_}
+use mathlib.Core.Bool.{Bool, true, false, _&&_}
+use mathlib.Core.List.{List, [], _∷_, _++_}
+use lib.ListN.{length}
+use Rattle.meaning.specs.Answers.{_≤?_, _<?_, _=?_, if_then_else_}
+use Rattle.meaning.specs.RuleFile.{Rule, Move, noMove, to, letterMove, treeMove, treeStartMove}
+use Rattle.meaning.specs.FullReading.{Event, opens, closes, letter, eventOf}
+
+infixr 20 _·_
+infixr 20 ⟨_⟩·_
+
+pub data Hedge : Type 0 where
+  ε : Hedge
+  _·_ : ℕ → Hedge → Hedge
+  ⟨_⟩·_ : Hedge → Hedge → Hedge
+
+-- the events of a hedge, the paper's nw: 0 opens a tree, 1 closes one, 2+a is letter a
+unfoldable pub eventsOf : Hedge → List ℕ
+eventsOf ε = []
+eventsOf (a · h) = suc (suc a) ∷ eventsOf h
+eventsOf (⟨ h ⟩· g) = 0 ∷ (eventsOf h ++ 1 ∷ eventsOf g)
+
+-- a hedge over the rule's letters
+unfoldable pub known : ℕ → Hedge → Bool
+known k ε = true
+known k (a · h) = a <? k && known k h
+known k (⟨ h ⟩· g) = known k h && known k g
+
+-- The automaton's steps (4.1.1): q goes to q′ by a hedge.
+pub data Goes (R : Rule) : ℕ → Hedge → ℕ → Type 0 where
+  byNothing : {q : ℕ} → Goes R q ε q
+  byLetter : {q q′ q″ a : ℕ} {h : Hedge} → letterMove R q a ≡ to q′ → Goes R q′ h q″ → Goes R q (a · h) q″
+  byTree : {q q′ q″ p p′ : ℕ} {h g : Hedge} → treeStartMove R ≡ to p → Goes R p h p′ → treeMove R q p′ ≡ to q′
+    → Goes R q′ g q″ → Goes R q (⟨ h ⟩· g) q″
+
+-- Where reading a hedge from a state leads: to a state, or to the first event whose move is missing, counted from the
+-- hedge's first event.
+pub data Led : Type 0 where
+  toState : ℕ → Led
+  missingAt : ℕ → Led
+
+-- after so many events before
+unfoldable pub later : ℕ → Led → Led
+later n (toState q) = toState q
+later n (missingAt i) = missingAt (n + i)
+
+unfoldable pub onMove : Move → ℕ → (ℕ → Led) → Led
+onMove noMove i next = missingAt i
+onMove (to q) i next = next q
+
+unfoldable pub onLed : Led → (ℕ → Led) → Led
+onLed (toState q) next = next q
+onLed (missingAt i) next = missingAt i
+
+unfoldable pub evaluate : Rule → ℕ → Hedge → Led
+evaluate R q ε = toState q
+evaluate R q (a · h) = onMove (letterMove R q a) 0 (λ q′. later 1 (evaluate R q′ h))
+evaluate R q (⟨ h ⟩· g) =
+    onMove (treeStartMove R) 0
+    (λ p. onLed (later 1 (evaluate R p h))
+    (λ p′. onMove (treeMove R q p′) (1 + length (eventsOf h))
+    (λ q′. later (2 + length (eventsOf h)) (evaluate R q′ g))))
+
+-- how many levels a hedge opens at once
+unfoldable pub height : Hedge → ℕ
+height ε = 0
+height (a · h) = height h
+height (⟨ h ⟩· g) = if height g ≤? suc (height h) then suc (height h) else height g
+
+-- ---- well-nested runs of known events
+
+-- an event with so many trees open: a close lacks its open where none is
+unfoldable pub nestedOn : ℕ → Event → (ℕ → Bool) → Bool
+nestedOn depth opens rest = rest (suc depth)
+nestedOn zero closes rest = false
+nestedOn (suc depth) closes rest = rest depth
+nestedOn depth (letter a) rest = rest depth
+
+-- with so many trees open, no close lacks its open and in the end no open lacks its close
+unfoldable pub nestedFrom : ℕ → List ℕ → Bool
+nestedFrom depth [] = depth =? 0
+nestedFrom depth (e ∷ es) = nestedOn depth (eventOf e) (λ next. nestedFrom next es)
+
+-- every event is known to a rule of k letters
+unfoldable pub knownEvents : ℕ → List ℕ → Bool
+knownEvents k [] = true
+knownEvents k (e ∷ es) = e <? k + 2 && knownEvents k es
+
+unfoldable pub wellNested : ℕ → List ℕ → Bool
+wellNested k es = nestedFrom 0 es && knownEvents k es

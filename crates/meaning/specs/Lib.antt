@@ -1,0 +1,10 @@
+-- The definitions, a file for each heading of document 01, in its order.
+pub mod Answers
+pub mod RuleFile
+pub mod FullReading
+pub mod Hedges
+pub mod SkipBook
+pub mod Skipping
+pub mod PassedOver
+pub mod Calls
+pub mod Cases

@@ -1,0 +1,138 @@
+-- The skip book (document 01, "Skip book"): which states can still change, and which can still change the level above.
+use Prim.Native.Nat.{ℕ, zero, suc, _+_, _*_, _/_, _%_, _^_, _<_}
+use mathlib.Core.Path.{_≡_}
+use mathlib.Core.Bool.{Bool, true, false, not, _&&_, _||_}
+use mathlib.Core.List.{List, [], _∷_, _++_}
+use lib.ListN.{length, getD, drop}
+use lib.Count.{ones}
+use Rattle.meaning.specs.Answers.{Answer, given, refused, refuse_at_when_otherwise_, _giving_, _<?_, _=?_}
+use Rattle.meaning.specs.RuleFile.{Rule, Move, noMove, to, letterMove, treeMove, checkRule, ruleOf}
+
+-- ---- Reach
+
+-- the lower states that count: any lower state of the rule
+unfoldable pub canEndTree : Rule → ℕ → Bool
+canEndTree R lower = lower <? R .states
+
+-- Reach(q), the least set that holds q and every state got from a member by a letter move or by a tree move with a lower
+-- state that counts. None adds nothing.
+pub data Reach (R : Rule) (q : ℕ) : ℕ → Type 0 where
+  itself : Reach R q q
+  byLetter : {p p′ : ℕ} (a : ℕ) → Reach R q p → a < R .letters → letterMove R p a ≡ to p′ → Reach R q p′
+  byTree : {p p′ : ℕ} (lower : ℕ) → Reach R q p → canEndTree R lower ≡ true → treeMove R p lower ≡ to p′ → Reach R q p′
+
+-- ---- still and hold
+
+-- q is still: Reach(q) = {q}
+unfoldable pub Still : Rule → ℕ → Type 0
+Still R q = (p : ℕ) → Reach R q p → p ≡ q
+
+-- a move that is none or leads to u
+unfoldable pub noneOr : ℕ → Move → Bool
+noneOr u noMove = true
+noneOr u (to q) = q =? u
+
+-- p is in hold(u): for every p′ in Reach(p), the tree move of u and p′ is none or u
+unfoldable pub Hold : Rule → ℕ → ℕ → Type 0
+Hold R u p = (p′ : ℕ) → Reach R p p′ → noneOr u (treeMove R u p′) ≡ true
+
+-- ---- Reach in rounds, with a mark for each state, state 0 first
+
+-- true of some number below n; true of every number below n
+unfoldable pub anyBelow : ℕ → (ℕ → Bool) → Bool
+anyBelow zero f = false
+anyBelow (suc n) f = anyBelow n f || f n
+
+unfoldable pub allBelow : ℕ → (ℕ → Bool) → Bool
+allBelow zero f = true
+allBelow (suc n) f = allBelow n f && f n
+
+-- f 0, f 1, .., n in all
+unfoldable pub listed : {A : Type 0} → ℕ → (ℕ → A) → List A
+listed zero f = []
+listed (suc n) f = let first = f zero in first ∷ listed n (λ i. f (suc i))
+
+unfoldable pub marked : List Bool → ℕ → Bool
+marked marks p = getD marks p false
+
+unfoldable pub goesTo : ℕ → Move → Bool
+goesTo p noMove = false
+goesTo p (to q) = q =? p
+
+-- p′ is one move away from p
+unfoldable pub oneMove : Rule → ℕ → ℕ → Bool
+oneMove R p p′ =
+    anyBelow (R .letters) (λ a. goesTo p′ (letterMove R p a))
+    || anyBelow (R .states) (λ lower. canEndTree R lower && goesTo p′ (treeMove R p lower))
+
+-- a round adds all states one move away
+unfoldable pub round : Rule → List Bool → List Bool
+round R marks =
+    listed (R .states) (λ p′. marked marks p′ || anyBelow (R .states) (λ p. marked marks p && oneMove R p p′))
+
+unfoldable pub rounds : Rule → ℕ → List Bool → List Bool
+rounds R zero marks = marks
+rounds R (suc i) marks = round R (rounds R i marks)
+
+unfoldable pub onlyState : Rule → ℕ → List Bool
+onlyState R q = listed (R .states) (λ p. p =? q)
+
+-- the states marked after so many rounds from q
+unfoldable pub reachedIn : Rule → ℕ → ℕ → List Bool
+reachedIn R i q = rounds R i (onlyState R q)
+
+-- some state is marked in the second and not in the first
+unfoldable pub adds : Rule → List Bool → List Bool → Bool
+adds R before after = anyBelow (R .states) (λ p. marked after p && not (marked before p))
+
+abbrev pub mostRounds : ℕ
+mostRounds = 64
+
+-- the 64th round, from some state, still adds a state
+unfoldable pub roundsUsedUp : Rule → Bool
+roundsUsedUp R = anyBelow (R .states) (λ q. adds R (reachedIn R 63 q) (reachedIn R mostRounds q))
+
+-- ---- the book
+
+unfoldable pub reachMarks : Rule → ℕ → List Bool
+reachMarks R q = reachedIn R mostRounds q
+
+unfoldable pub stillMarks : Rule → List Bool
+stillMarks R =
+    listed (R .states)
+    (λ q. let reach : List Bool = reachMarks R q in allBelow (R .states) (λ p. not (marked reach p) || p =? q))
+
+unfoldable pub holdMarks : Rule → ℕ → List Bool
+holdMarks R u =
+    listed (R .states)
+    (λ p. let reach : List Bool = reachMarks R p in
+    allBelow (R .states) (λ p′. not (marked reach p′) || noneOr u (treeMove R u p′)))
+
+-- a word of 64 bits: bit p for state p
+unfoldable pub wordOf : List Bool → ℕ
+wordOf [] = 0
+wordOf (true ∷ marks) = 1 + 2 * wordOf marks
+wordOf (false ∷ marks) = 2 * wordOf marks
+
+unfoldable pub bit : ℕ → ℕ → Bool
+bit word p = word / 2 ^ p % 2 =? 1
+
+-- n+1 words: word 0 is still, word 1+u is hold(u)
+unfoldable pub bookOf : Rule → List ℕ
+bookOf R = wordOf (stillMarks R) ∷ listed (R .states) (λ u. wordOf (holdMarks R u))
+
+-- ---- the maker
+
+-- Refusals: the rule check, a book shorter than n+1, rounds used up. Otherwise how many states are still, counted as the
+-- ones in that word.
+unfoldable pub makeBook : List ℕ → List ℕ → Answer ℕ
+makeBook file book =
+    checkRule file giving λ R.
+    refuse 6 at 0 when length book <? R .states + 1 otherwise
+    refuse 15 at 0 when roundsUsedUp R otherwise
+    given (ones (wordOf (stillMarks R)))
+
+-- what the book holds after the maker gave that answer: the words of the rule, and the words past them as they were
+unfoldable pub bookAfter : Answer ℕ → Rule → List ℕ → List ℕ
+bookAfter (given count) R book = bookOf R ++ drop (R .states + 1) book
+bookAfter (refused number place) R book = book
