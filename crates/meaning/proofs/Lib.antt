@@ -1,1 +1,4 @@
+-- What is proved of the definitions.
+pub mod Answered
+pub mod Accepted
 pub mod Cases

@@ -7,7 +7,7 @@ use Rattle.meaning.specs.declared.Level.{Level}
 use Rattle.meaning.specs.Answers.{Answer, given, refused, if_then_else_}
 use Rattle.meaning.specs.RuleFile.{Rule}
 use Rattle.meaning.specs.FullReading.{Event, opens, closes, letter, eventOf, Run, fullStep}
-use Rattle.meaning.specs.Skipping.{inStill, inHold}
+use Rattle.meaning.specs.SkipBook.{inStill, inHold}
 
 -- the level with that state inside those levels is in hold of the state above it; the top has no state above it
 unfoldable pub levelHeld : List ℕ → ℕ → List Level → Bool

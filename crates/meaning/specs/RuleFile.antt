@@ -1,6 +1,7 @@
 -- The rule file (document 01, "Rule file"): four records in a fixed order, nothing after. A record is a length of four
 -- bytes, a kind of two bytes, both little-endian, and then the body. A byte is a number below 256, and a file is a list of bytes.
-use Prim.Native.Nat.{ℕ, zero, suc, _+_, _*_, _/_, _%_}
+use Prim.Native.Nat.{ℕ, zero, suc, _+_, _*_, _/_, _%_, _<_}
+use mathlib.Core.Path.{_≡_}
 use mathlib.Core.Bool.{Bool, true, false, not, _&&_, _||_}
 use mathlib.Core.List.{List, [], _∷_, _++_}
 use lib.ListN.{length, getD, take, drop}
@@ -109,6 +110,19 @@ isMove n x = isState n x || x =? none
 -- a class is 0, 1 or 2
 unfoldable pub isClass : ℕ → Bool
 isClass x = x <? classCount
+
+-- What a rule is: each number and each entry of the tables is in range, and the tables have their lengths.
+pub record IsRule (R : Rule) : Type 0 where
+  pub statesIn : isStates (R .states) ≡ true
+  pub initialIn : isState (R .states) (R .initial) ≡ true
+  pub treeStartIn : isMove (R .states) (R .treeStart) ≡ true
+  pub lettersIn : isLetters (R .letters) ≡ true
+  pub letterLength : length (R .letterMoves) ≡ R .states * R .letters
+  pub treeLength : length (R .treeMoves) ≡ R .states * R .states
+  pub classLength : length (R .classes) ≡ R .states
+  pub letterIn : (i : ℕ) → i < R .states * R .letters → isMove (R .states) (getD (R .letterMoves) i 0) ≡ true
+  pub treeIn : (i : ℕ) → i < R .states * R .states → isMove (R .states) (getD (R .treeMoves) i 0) ≡ true
+  pub classIn : (i : ℕ) → i < R .states → isClass (getD (R .classes) i 0) ≡ true
 
 -- ---- where the records stand, and how long the file is
 

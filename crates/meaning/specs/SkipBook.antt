@@ -1,6 +1,7 @@
 -- The skip book (document 01, "Skip book"): which states can still change, and which can still change the level above.
 use Prim.Native.Nat.{ℕ, zero, suc, _+_, _*_, _/_, _%_, _^_, _<_}
 use mathlib.Core.Path.{_≡_}
+use mathlib.Core.Logic.{_↔_}
 use mathlib.Core.Bool.{Bool, true, false, not, _&&_, _||_}
 use mathlib.Core.List.{List, [], _∷_, _++_}
 use lib.ListN.{length, getD, drop}
@@ -120,6 +121,19 @@ bit word p = word / 2 ^ p % 2 =? 1
 -- n+1 words: word 0 is still, word 1+u is hold(u)
 unfoldable pub bookOf : Rule → List ℕ
 bookOf R = wordOf (stillMarks R) ∷ listed (R .states) (λ u. wordOf (holdMarks R u))
+
+-- ---- the sets of a book
+
+unfoldable pub inStill : List ℕ → ℕ → Bool
+inStill book q = bit (getD book 0 0) q
+
+unfoldable pub inHold : List ℕ → ℕ → ℕ → Bool
+inHold book u q = bit (getD book (1 + u) 0) q
+
+-- a book whose sets are the rule's own still and hold(u), for each state
+pub record IsBook (R : Rule) (book : List ℕ) : Type 0 where
+  pub stillIs : (q : ℕ) → q < R .states → (inStill book q ≡ true) ↔ Still R q
+  pub holdIs : (u p : ℕ) → u < R .states → p < R .states → (inHold book u p ≡ true) ↔ Hold R u p
 
 -- ---- the maker
 

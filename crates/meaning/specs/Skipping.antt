@@ -2,22 +2,15 @@
 -- obeyed as it stands.
 use Prim.Native.Nat.{ℕ, zero, suc, _+_, _-_}
 use mathlib.Core.Bool.{Bool, true, false, _&&_, _||_}
-use mathlib.Core.List.{List, []}
-use lib.ListN.{getD}
+use mathlib.Core.List.{List}
 use Rattle.meaning.specs.declared.Reading.{Reading}
 use Rattle.meaning.specs.declared.Level.{Level}
 use Rattle.meaning.specs.Answers.{Answer, given, _giving_, _<?_, if_then_else_}
 use Rattle.meaning.specs.RuleFile.{Rule}
 use Rattle.meaning.specs.FullReading.{Event, opens, closes, letter, eventOf, Turn, stays, stores, ends, fullTurn, knownEvent, Run, innermost, runAfter}
-use Rattle.meaning.specs.SkipBook.{bit}
+use Rattle.meaning.specs.SkipBook.{inStill, inHold}
 
--- ---- the sets of a book
-
-unfoldable pub inStill : List ℕ → ℕ → Bool
-inStill book q = bit (getD book 0 0) q
-
-unfoldable pub inHold : List ℕ → ℕ → ℕ → Bool
-inHold book u q = bit (getD book (1 + u) 0) q
+-- ---- settled levels
 
 -- the level has an upper state u, and the state is in hold(u)
 unfoldable pub held : List ℕ → Reading → Level → Bool
