@@ -61,19 +61,21 @@ passed-of file R e =
     let a7 = andThen-given _ _ (a6 .1) in
     let a8 = andThen-given _ _ (a7 .1) in
     let a9 = refuse-given 5 _ _ _ (a8 .1) in
-    let same : ruleOf file ≡ R = cc (a9 .1) in
-    (record {
-      rule = refl;
-      first = a1 .0;
-      numbers = a2 .0;
-      second = a3 .0;
-      letterTable = a4 .0;
-      third = a5 .0;
-      treeTable = a6 .0;
-      fourth = a7 .0;
-      classTable = a8 .0;
-      nothingAfter = ltb-false _ _ (a9 .0)
-    }, same)
+    let same : ruleOf file ≡ R = cc (a9 .1) in (
+      record {
+        rule = refl;
+        first = a1 .0;
+        numbers = a2 .0;
+        second = a3 .0;
+        letterTable = a4 .0;
+        third = a5 .0;
+        treeTable = a6 .0;
+        fourth = a7 .0;
+        classTable = a8 .0;
+        nothingAfter = ltb-false _ _ (a9 .0);
+      },
+      same,
+    )
 
 pub passed : (file : List ℕ) {R : Rule} → checkRule file ≡ given R → Passed file R
 passed file {R} e = subst (λ (S : Rule). Passed file S) (passed-of file R e .1) (passed-of file R e .0)
@@ -106,7 +108,7 @@ numbers-in R e =
       statesIn = not-false-true (a1 .0);
       initialIn = not-false-true (a2 .0);
       treeStartIn = not-false-true (a3 .0);
-      lettersIn = not-false-true (a4 .0)
+      lettersIn = not-false-true (a4 .0);
     }
 
 is-rule : (file : List ℕ) → Passed file (ruleOf file) → IsRule (ruleOf file)
@@ -127,7 +129,7 @@ is-rule file p =
       classLength = l4;
       letterIn = λ i hi. table-in _ _ _ (p .letterTable) i (omega (arith, l2));
       treeIn = λ i hi. table-in _ _ _ (p .treeTable) i (omega (arith, l3));
-      classIn = λ i hi. table-in _ _ _ (p .classTable) i (omega (arith, l4))
+      classIn = λ i hi. table-in _ _ _ (p .classTable) i (omega (arith, l4));
     }
 
 -- an accepted file's rule is a rule

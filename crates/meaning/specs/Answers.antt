@@ -11,7 +11,6 @@ infix 40 _≤?_
 infix 40 _<?_
 infix 40 _=?_
 infix 15 if_then_else_
-
 -- tests of two numbers, which answer true or false
 abbrev pub _≤?_ : ℕ → ℕ → Bool
 m ≤? n = leb m n

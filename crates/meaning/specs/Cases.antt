@@ -29,7 +29,7 @@ ruleB =
       letters = 1;
       letterMoves = 2 ∷ 2 ∷ 2 ∷ [];
       treeMoves = 255 ∷ 255 ∷ 0 ∷ 255 ∷ 255 ∷ 255 ∷ 255 ∷ 255 ∷ 255 ∷ [];
-      classes = 2 ∷ 0 ∷ 1 ∷ []
+      classes = 2 ∷ 0 ∷ 1 ∷ [];
     })
 
 -- how a reading ends: the verdict's class, the end state and the looks

@@ -8,11 +8,10 @@ use mathlib.Core.List.{List, [], _∷_, _++_}
 use lib.ListN.{length}
 use Rattle.meaning.specs.Answers.{_≤?_, _<?_, _=?_, if_then_else_}
 use Rattle.meaning.specs.RuleFile.{Rule, Move, noMove, to, letterMove, treeMove, treeStartMove}
-use Rattle.meaning.specs.FullReading.{Event, opens, closes, letter, eventOf}
+use Rattle.meaning.specs.FullReading.{Event, opens, closes, letter, eventOf, Table, letterTable, startTable, treeTable}
 
 infixr 20 _·_
 infixr 20 ⟨_⟩·_
-
 pub data Hedge : Type 0 where
   ε : Hedge
   _·_ : ℕ → Hedge → Hedge
@@ -35,34 +34,36 @@ pub data Goes (R : Rule) : ℕ → Hedge → ℕ → Type 0 where
   byNothing : {q : ℕ} → Goes R q ε q
   byLetter : {q q′ q″ a : ℕ} {h : Hedge} → letterMove R q a ≡ to q′ → Goes R q′ h q″ → Goes R q (a · h) q″
   byTree : {q q′ q″ p p′ : ℕ} {h g : Hedge} → treeStartMove R ≡ to p → Goes R p h p′ → treeMove R q p′ ≡ to q′
-    → Goes R q′ g q″ → Goes R q (⟨ h ⟩· g) q″
+      → Goes R q′ g q″ → Goes R q (⟨ h ⟩· g) q″
 
--- Where reading a hedge from a state leads: to a state, or to the first event whose move is missing, counted from the
--- hedge's first event.
+-- Where reading a hedge from a state leads: to a state, or to the first event whose move is missing, with the table that
+-- lacks it and the count of the hedge's events before it.
 pub data Led : Type 0 where
   toState : ℕ → Led
-  missingAt : ℕ → Led
+  missingAt : Table → ℕ → Led
 
--- after so many events before
+-- the same after so many events
 unfoldable pub later : ℕ → Led → Led
 later n (toState q) = toState q
-later n (missingAt i) = missingAt (n + i)
+later n (missingAt table i) = missingAt table (n + i)
 
-unfoldable pub onMove : Move → ℕ → (ℕ → Led) → Led
-onMove noMove i next = missingAt i
-onMove (to q) i next = next q
+-- by a move at an event, and on
+unfoldable pub byMove : Table → Move → ℕ → (ℕ → Led) → Led
+byMove table noMove i next = missingAt table i
+byMove table (to q) i next = next q
 
-unfoldable pub onLed : Led → (ℕ → Led) → Led
-onLed (toState q) next = next q
-onLed (missingAt i) next = missingAt i
+-- from where a part led, on
+unfoldable pub fromThere : Led → (ℕ → Led) → Led
+fromThere (toState q) next = next q
+fromThere (missingAt table i) next = missingAt table i
 
 unfoldable pub evaluate : Rule → ℕ → Hedge → Led
 evaluate R q ε = toState q
-evaluate R q (a · h) = onMove (letterMove R q a) 0 (λ q′. later 1 (evaluate R q′ h))
+evaluate R q (a · h) = byMove letterTable (letterMove R q a) 0 (λ q′. later 1 (evaluate R q′ h))
 evaluate R q (⟨ h ⟩· g) =
-    onMove (treeStartMove R) 0
-    (λ p. onLed (later 1 (evaluate R p h))
-    (λ p′. onMove (treeMove R q p′) (1 + length (eventsOf h))
+    byMove startTable (treeStartMove R) 0
+    (λ p. fromThere (later 1 (evaluate R p h))
+    (λ p′. byMove treeTable (treeMove R q p′) (1 + length (eventsOf h))
     (λ q′. later (2 + length (eventsOf h)) (evaluate R q′ g))))
 
 -- how many levels a hedge opens at once

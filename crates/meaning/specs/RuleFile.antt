@@ -163,7 +163,7 @@ ruleOf file =
       letters = k;
       letterMoves = part file (letterRecord + headerLength) (n * k);
       treeMoves = part file (treeRecord n k + headerLength) (n * n);
-      classes = part file (classRecord n k + headerLength) n
+      classes = part file (classRecord n k + headerLength) n;
     }
 
 -- ---- the checks that reader and writer share

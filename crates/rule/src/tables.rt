@@ -7,6 +7,7 @@ ghost use Rattle.rule.specs.Tables.{letterByte, treeByte, classByte};
 
 // The bytes before the letter moves, between two tables, and of a header.
 const LETTER_MOVES: usize = 17;
+
 const HEADER: usize = 6;
 
 // The byte at a place, or none past the end.
