@@ -136,3 +136,24 @@ is-rule file p =
 pub accepted-is-rule : (file : List ℕ) {R : Rule} → checkRule file ≡ given R → IsRule R
 accepted-is-rule file {R} e =
     subst IsRule (passed-of file R e .1) (is-rule file (passed-of file R e .0))
+
+-- the tables of an accepted file's rule are parts of the file
+pub letter-part : (file : List ℕ) {R : Rule} → checkRule file ≡ given R
+    → R .letterMoves ≡ part file (letterRecord + headerLength) (R .states * R .letters)
+unfolding ruleOf
+letter-part file e =
+    subst (λ (S : Rule). S .letterMoves ≡ part file (letterRecord + headerLength) (S .states * S .letters)) (accepted-rule file e) refl
+
+pub tree-part : (file : List ℕ) {R : Rule} → checkRule file ≡ given R
+    → R .treeMoves ≡ part file (treeRecord (R .states) (R .letters) + headerLength) (R .states * R .states)
+unfolding ruleOf
+tree-part file e =
+    subst (λ (S : Rule). S .treeMoves ≡ part file (treeRecord (S .states) (S .letters) + headerLength) (S .states * S .states))
+    (accepted-rule file e) refl
+
+pub class-part : (file : List ℕ) {R : Rule} → checkRule file ≡ given R
+    → R .classes ≡ part file (classRecord (R .states) (R .letters) + headerLength) (R .states)
+unfolding ruleOf
+class-part file e =
+    subst (λ (S : Rule). S .classes ≡ part file (classRecord (S .states) (S .letters) + headerLength) (S .states))
+    (accepted-rule file e) refl

@@ -1,7 +1,7 @@
-// The rule file: the four numbers of a rule and the numbers of the format.
-ghost use mathlib.Core.Path.{_≡_};
-
+// The rule file: the four numbers of a rule, the numbers of the format, and the answers of the check and of the writer.
 pub mod tables;
+
+use meaning::Refusal;
 
 // The four numbers of a rule. Its tables stay in the bytes of its file, where they are read at computed offsets.
 pub struct Rule {
@@ -20,4 +20,16 @@ impl Rule {
 
     // A move or a tree start that is not there.
     pub const NONE: u8 = 255;
+}
+
+// What the rule check answers: the rule's numbers, or a refusal.
+pub enum Checked {
+    Fine(Rule),
+    Refused(Refusal),
+}
+
+// What the writer answers: the count of bytes written, or a refusal.
+pub enum Written {
+    Bytes(usize),
+    Refused(Refusal),
 }

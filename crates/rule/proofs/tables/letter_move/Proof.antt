@@ -1,30 +1,34 @@
+-- `rule::tables::letter_move` meets its contract: the sum that the code computes is the place that the definition names.
+-- Assumes nothing.
 use borrow.Author.Needs.{needs}
+use mathlib.Core.Path.{_≡_, _∙_, ap}
+use Prim.Native.Nat.{ℕ, _+_, _*_}
+use native.Mathlib.Omega.{arith}
+use denote.Ref.{now}
+use lib.ListN.{getD}
+use Rattle.meaning.specs.RuleFile.{none, headerLength, letterRecord}
+use Rattle.rule.specs.Tables.{letterByte}
 use Rattle.rule.proofs.tables.letter_move.Statement.{statement}
 use Rattle.rule.proofs.tables.letter_move.Tie as tie
-use Rattle.rule.proofs.tables.letter_move.Reads as reads
-use Rattle.rule.proofs.tables.letter_move.Lts as lts
-use Rattle.rule.proofs.tables.byte_or_none.Reads as byte-or-none-reads
-use Rattle.rule.proofs.tables.product.Reads as product-reads
 
--- src/tables.rt:34:9
 product-requires : tie.Need-product-requires
 product-requires c κs = search needs
 
--- src/tables.rt:35:24
 add-byte-or-none : tie.Need-add-byte-or-none
 add-byte-or-none c = search needs
 
--- src/tables.rt:35:24
 add-byte-or-none-2 : tie.Need-add-byte-or-none-2
 add-byte-or-none-2 c = search needs
 
--- src/tables.rt:35:5
 byte-or-none-requires : tie.Need-byte-or-none-requires
 byte-or-none-requires c κs = search needs
 
--- src/tables.rt:31:1
 returns : tie.Need-returns
-returns c = ?
+unfolding letterByte letterRecord
+returns c =
+    let a = c .before .before .before .args in
+    let same : 17 + c .before .product .result + a .letter ≡ letterRecord + headerLength + (a .state * a .rule .letters + a .letter) = omega arith in
+    c .byte-or-none .ensures ∙ ap (λ (i : ℕ). getD (now (a .file)) i none) same
 
 pub letter-move-spec : {M : Type 1} → statement M
 letter-move-spec =

@@ -1,0 +1,53 @@
+-- The bytes that the tables are read at are the moves and the classes of an accepted file's rule: a table is a part of the
+-- file, and an entry of a part stands in the file at the part's place and on.
+use mathlib.Core.Path.{_≡_, refl, sym, ap, _∙_}
+use mathlib.Core.List.{List, [], _∷_}
+use Prim.Native.Nat.{ℕ, zero, suc, _+_, _*_, _≤_, _<_, suc-le-suc}
+use native.Mathlib.Nat.{not-suc-le-zero, le-of-suc-le-suc, le-trans, le-of-eq, mul-le-mul-right, suc-mul}
+use native.Mathlib.Omega.{arith}
+use lib.ListN.{length, getD, take, drop}
+use lib.Seq.{getD-take, getD-drop}
+use Rattle.meaning.specs.Answers.{Answer, given}
+use Rattle.meaning.specs.RuleFile.{Rule, none, part, checkRule, asMove, letterMove, treeMove, classOf, letterRecord, treeRecord, classRecord, headerLength}
+use Rattle.meaning.proofs.Accepted.{accepted-is-rule, letter-part, tree-part, class-part}
+use Rattle.rule.specs.Tables.{letterByte, treeByte, classByte}
+
+-- inside a list what would stand past its end does not matter
+pub getD-inside : {A : Type 0} (l : List A) (i : ℕ) (d e : A) → i < length l → getD l i d ≡ getD l i e
+getD-inside [] i d e h = absurd (not-suc-le-zero h)
+getD-inside (x ∷ l) zero d e h = refl
+getD-inside (x ∷ l) (suc i) d e h = getD-inside l i d e (le-of-suc-le-suc h)
+
+part-at : (file : List ℕ) (place size i d : ℕ) → i < size → getD (part file place size) i d ≡ getD file (place + i) d
+unfolding part
+part-at file place size i d h = rw (getD-take, getD-drop)
+
+-- a row and a column in range are an entry in range
+pub entry-below : (row column rows columns : ℕ) → row < rows → column < columns → row * columns + column < rows * columns
+entry-below row column rows columns h g =
+    let below : suc row * columns ≤ rows * columns = mul-le-mul-right columns h in
+    omega (arith, below, suc-mul row columns)
+
+module _ (file : List ℕ) {R : Rule} (accepted : checkRule file ≡ given R) where
+  pub letter-look : (q a : ℕ) → q < R .states → a < R .letters
+      → asMove (letterByte file (R .letters) q a) ≡ letterMove R q a
+  unfolding letterByte letterMove
+  letter-look q a hq ha =
+      ap asMove
+      (sym (ap (λ (l : List ℕ). getD l (q * R .letters + a) none) (letter-part file accepted)
+      ∙ part-at file _ _ _ none (entry-below q a (R .states) (R .letters) hq ha)))
+
+  pub tree-look : (u q : ℕ) → u < R .states → q < R .states
+      → asMove (treeByte file (R .states) (R .letters) u q) ≡ treeMove R u q
+  unfolding treeByte treeMove
+  tree-look u q hu hq =
+      ap asMove
+      (sym (ap (λ (l : List ℕ). getD l (u * R .states + q) none) (tree-part file accepted)
+      ∙ part-at file _ _ _ none (entry-below u q (R .states) (R .states) hu hq)))
+
+  pub class-look : (q : ℕ) → q < R .states → classByte file (R .states) (R .letters) q ≡ classOf R q
+  unfolding classByte classOf
+  class-look q hq =
+      sym (getD-inside (R .classes) q 0 none (omega (arith, accepted-is-rule file accepted .classLength))
+      ∙ ap (λ (l : List ℕ). getD l q none) (class-part file accepted)
+      ∙ part-at file _ _ _ none hq)
