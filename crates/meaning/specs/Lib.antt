@@ -8,3 +8,4 @@ pub mod Skipping
 pub mod PassedOver
 pub mod Calls
 pub mod Cases
+pub mod CheckProgram

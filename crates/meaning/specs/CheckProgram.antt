@@ -1,0 +1,96 @@
+-- The check program (document 01, the end of "Two small rules"): what its input is, and what its two lines say. The input is the
+-- four records of a rule, then one record of kind 5 whose body is the events, two bytes each, little-endian, and nothing after.
+use Prim.Native.Nat.{ℕ, zero, suc, _+_, _*_, _%_}
+use mathlib.Core.Bool.{Bool, true, false, not}
+use mathlib.Core.List.{List, [], _∷_}
+use lib.ListN.{length, take, replicate}
+use Rattle.meaning.specs.Answers.{Answer, given, refused, refuse_at_when_otherwise_, _giving_, _<?_, _=?_, if_then_else_}
+use Rattle.meaning.specs.RuleFile.{Rule, headerLength, number2, number4, part, checkRule}
+use Rattle.meaning.specs.FullReading.{Went, freshReading, blank}
+use Rattle.meaning.specs.SkipBook.{bookOf}
+use Rattle.meaning.specs.Calls.{Judged, Stored, feedCall, finishFed, largestCeiling}
+
+-- the kind of the record that holds the events
+abbrev pub eventsKind : ℕ
+eventsKind = 5
+
+-- two bytes each, little-endian
+unfoldable pub eventsIn : List ℕ → List ℕ
+eventsIn [] = []
+eventsIn (low ∷ []) = []
+eventsIn (low ∷ high ∷ rest) = (low + 256 * high) ∷ eventsIn rest
+
+-- The header of the record of events that stands at a place: fewer than six bytes left, the kind, and a length that is odd.
+-- It gives the bytes of the body.
+unfoldable pub eventsHeader : List ℕ → ℕ → Answer ℕ
+eventsHeader input place =
+    refuse 1 at length input when length input <? place + headerLength otherwise
+    refuse 2 at place + 4 when not (number2 input (place + 4) =? eventsKind) otherwise
+    refuse 3 at place when number4 input place % 2 =? 1 otherwise
+    given (number4 input place)
+
+-- the body from its place on: cut short, or bytes after it, or its events
+unfoldable pub eventsBody : List ℕ → ℕ → ℕ → Answer (List ℕ)
+eventsBody input place size =
+    refuse 1 at length input when length input <? place + size otherwise
+    refuse 5 at place + size when place + size <? length input otherwise
+    given (eventsIn (part input place size))
+
+-- The rule check is made on the whole input. Where it refuses by bytes after the fourth record, the record of events starts
+-- there; where there are none, that record is missing; and any other refusal is the input's.
+unfoldable pub eventsPlace : List ℕ → Answer ℕ
+eventsPlace input = placeFrom (checkRule input)
+  where
+    placeFrom : Answer Rule → Answer ℕ
+    placeFrom (given R) = refused 1 (length input)
+    placeFrom (refused number place) = if number =? 5 then given place else refused number place
+
+-- the rule's file and the events of an input, or the refusal of a bad record
+pub record Input : Type 0 where
+  pub file : List ℕ
+  pub events : List ℕ
+
+unfoldable pub inputCheck : List ℕ → Answer Input
+inputCheck input =
+    eventsPlace input giving λ place.
+    eventsHeader input place giving λ size.
+    eventsBody input (place + headerLength) size giving λ events.
+    given (record { file = take place input; events = events })
+
+-- ---- the two readings
+
+-- each reading has 1,024 levels
+abbrev pub programLevels : ℕ
+programLevels = 1024
+
+-- a reading's line: the verdict's class, the end state, the events and the looks, or the refusal
+pub record Line : Type 0 where
+  pub class : ℕ
+  pub state : ℕ
+  pub events : ℕ
+  pub looks : ℕ
+
+unfoldable pub lineFrom : Went Stored → Judged → Answer Line
+lineFrom fed j =
+    given
+    (record {
+      class = j .class;
+      state = j .state;
+      events = fed .last .reading .taken;
+      looks = fed .last .reading .looks
+    })
+
+-- reading the events of an input with a book
+unfoldable pub lineWith : Input → Rule → List ℕ → Answer Line
+lineWith input R book =
+    let fed : Went Stored =
+      feedCall (input .file) book largestCeiling (freshReading R) (replicate programLevels blank) (input .events)
+    in
+    finishFed (input .file) book fed giving lineFrom fed
+
+-- `skip` is the reading with the rule's own book, `full` the one with a book of zeros, which is full reading
+unfoldable pub skipLine : Input → Rule → Answer Line
+skipLine input R = lineWith input R (bookOf R)
+
+unfoldable pub fullLine : Input → Rule → Answer Line
+fullLine input R = lineWith input R (replicate (R .states + 1) 0)
