@@ -157,3 +157,16 @@ unfolding ruleOf
 class-part file e =
     subst (λ (S : Rule). S .classes ≡ part file (classRecord (S .states) (S .letters) + headerLength) (S .states))
     (accepted-rule file e) refl
+
+-- the ranges of n and k, as orders
+pub states-range : (n : ℕ) → isStates n ≡ true → (1 ≤ n) × (n ≤ mostStates)
+unfolding isStates
+states-range n e =
+    let b = and-true (1 ≤? n) (n ≤? mostStates) e in
+    (leb-true 1 n (b .0), leb-true n mostStates (b .1))
+
+pub letters-range : (k : ℕ) → isLetters k ≡ true → (1 ≤ k) × (k ≤ mostLetters)
+unfolding isLetters
+letters-range k e =
+    let b = and-true (1 ≤? k) (k ≤? mostLetters) e in
+    (leb-true 1 k (b .0), leb-true k mostLetters (b .1))

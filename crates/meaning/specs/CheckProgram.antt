@@ -77,14 +77,14 @@ lineFrom fed j =
       class = j .class;
       state = j .state;
       events = fed .last .reading .taken;
-      looks = fed .last .reading .looks
+      looks = fed .last .reading .looks;
     })
 
 -- reading the events of an input with a book
 unfoldable pub lineWith : Input → Rule → List ℕ → Answer Line
 lineWith input R book =
     let fed : Went Stored =
-      feedCall (input .file) book largestCeiling (freshReading R) (replicate programLevels blank) (input .events)
+    feedCall (input .file) book largestCeiling (freshReading R) (replicate programLevels blank) (input .events)
     in
     finishFed (input .file) book fed giving lineFrom fed
 
