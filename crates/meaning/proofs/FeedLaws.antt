@@ -1,7 +1,7 @@
 -- Laws of feeding one event after the other, over any step: events in two parts are fed as the first part and then, from
 -- where it led, the second; a refusal in the first part is the end; and steps that agree feed alike. Each holds by induction
 -- on the first part.
-use mathlib.Core.Path.{_≡_, refl, sym, ap, _∙_, fun-ext}
+use mathlib.Core.Path.{_≡_, refl, ap, fun-ext}
 use mathlib.Core.List.{List, [], _∷_, _++_}
 use Prim.Native.Nat.{ℕ}
 use native.Mathlib.Omega.{arith}
