@@ -4,3 +4,4 @@ pub mod Accepted
 pub mod Cases
 pub mod FeedLaws
 pub mod ZeroBook
+pub mod Automaton
