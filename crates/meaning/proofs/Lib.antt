@@ -5,3 +5,4 @@ pub mod Cases
 pub mod FeedLaws
 pub mod ZeroBook
 pub mod Automaton
+pub mod Nested
