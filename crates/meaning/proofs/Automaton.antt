@@ -8,10 +8,9 @@ use mathlib.Core.Bool.{Bool, true, false}
 use mathlib.Core.List.{List, [], _∷_, _++_, append-assoc, append-nil}
 use Prim.Native.Nat.{ℕ, suc, _+_, _-_, _≤_, _<_}
 use native.Mathlib.Omega.{arith}
-use native.Mathlib.Nat.{add-zero}
+use native.Mathlib.Nat.{add-zero, add-assoc}
 use lib.ListN.{length, length-append}
 use borrow.Author.Tests.{ltb-true, leb-true, leb-false, lt-leb, ne-eqb}
-use Rattle.meaning.specs.declared.Reading.{Reading}
 use Rattle.meaning.specs.declared.Level.{Level}
 use Rattle.meaning.specs.Answers.{Answer, given, refused, _giving_, _≤?_, if_then_else_}
 use Rattle.meaning.specs.RuleFile.{Rule, Move, noMove, to, letterMove, treeMove, treeStartMove}
@@ -64,72 +63,57 @@ goes-evaluates (byTree s g m k) = rw (s, byMove, goes-evaluates g, later, fromTh
 pub evaluate-goes : (R : Rule) (q : ℕ) (h : Hedge) (q′ : ℕ) → (evaluate R q h ≡ toState q′) ↔ Goes R q h q′
 evaluate-goes R q h q′ = (evaluates-goes R q h, goes-evaluates)
 
+-- so a hedge leads to one state only
+pub goes-one : {R : Rule} {q p p′ : ℕ} {h : Hedge} → Goes R q h p → Goes R q h p′ → p ≡ p′
+goes-one g k = cc (goes-evaluates g, goes-evaluates k)
+
 -- ---- one event of full reading, where the limits let it look
 
--- one look, and what becomes of the open levels
-abbrev turned : Table → ℕ → Move → (ℕ → Turn) → List Level → Answer Run
-turned table place x next levels = look table place x next giving λ turn. given (runAfter levels turn)
+-- an event is one look: where there is a move the turn is made, and otherwise the event is refused at its place
+record OneLook (step : Run → ℕ → Answer Run) (m : Run) (e : ℕ) (table : Table) (x : Move) (next : ℕ → Turn) : Type 0 where
+  by-it : step m e ≡ (look table (m .reading .taken) x next giving λ turn. given (runAfter (m .levels) turn))
 
-turned-to : (table : Table) (place : ℕ) {x : Move} (next : ℕ → Turn) (levels : List Level) {q : ℕ} → x ≡ to q
-    → turned table place x next levels ≡ given (runAfter levels (next q))
+look-to : {step : Run → ℕ → Answer Run} {m : Run} {e : ℕ} {table : Table} {q : ℕ} {next : ℕ → Turn}
+    → OneLook step m e table (to q) next → step m e ≡ given (runAfter (m .levels) (next q))
 unfolding look _giving_
-turned-to table place next levels e = rw (e, look, _giving_)
+look-to one = one .by-it
 
-turned-none : (table : Table) (place : ℕ) {x : Move} (next : ℕ → Turn) (levels : List Level) → x ≡ noMove
-    → turned table place x next levels ≡ refused (noMoveNumber table) place
+look-none : {step : Run → ℕ → Answer Run} {m : Run} {e : ℕ} {table : Table} {next : ℕ → Turn}
+    → OneLook step m e table noMove next → step m e ≡ refused (noMoveNumber table) (m .reading .taken)
 unfolding look _giving_
-turned-none table place next levels e = rw (e, look, _giving_)
+look-none one = one .by-it
 
-module _ (R : Rule) (room ceiling : ℕ) where
-  known-passes : (r : Reading) (e : ℕ) (turn : Answer Turn) → r .taken < mostEvents → e < R .letters + 2
-      → knownEvent R r e turn ≡ turn
-  unfolding knownEvent
-  known-passes r e turn limit letter = refuse-passes 16 _ _ (lt-leb _ _ limit) ∙ refuse-passes 10 _ _ (lt-leb _ _ letter)
+module _ (R : Rule) (room ceiling : ℕ) (m : Run) (limit : m .reading .taken < mostEvents) (free : m .reading .looks < ceiling) where
+  -- a known event whose turn is a look, once its own tests have passed
+  known-turn : (e : ℕ) {table : Table} {x : Move} {next : ℕ → Turn} → e < R .letters + 2
+      → fullTurn R room ceiling (m .reading) (innermost (m .levels)) (eventOf e) ≡ look table (m .reading .taken) x next
+      → OneLook (fullStep R room ceiling) m e table x next
+  unfolding fullStep fullEvent knownEvent
+  known-turn e letter turn = record {
+    by-it = ap
+        (λ x. x giving λ turn. given (runAfter (m .levels) turn))
+        (refuse-passes 16 _ _ (lt-leb _ _ limit) ∙ (refuse-passes 10 _ _ (lt-leb _ _ letter) ∙ turn));
+  }
 
-  letter-step : (m : Run) (a : ℕ) → m .reading .taken < mostEvents → a < R .letters → m .reading .looks < ceiling
-      → fullStep R room ceiling m (suc (suc a))
-      ≡ turned
-      letterTable
-      (m .reading .taken)
-      (letterMove R (m .reading .state) a)
+  letter-look : (a : ℕ) → a < R .letters
+      → OneLook (fullStep R room ceiling) m (suc (suc a)) letterTable (letterMove R (m .reading .state) a)
       (λ q. stays (looked (m .reading) q (m .reading .depth)))
-      (m .levels)
-  unfolding fullStep fullEvent fullTurn eventOf
-  letter-step m a limit letter looks =
-      ap
-      (λ x. x giving λ turn. given (runAfter (m .levels) turn))
-      (known-passes (m .reading) (suc (suc a)) _ limit (omega arith) ∙ refuse-passes 9 _ _ (lt-leb _ _ looks))
+  unfolding fullTurn eventOf
+  letter-look a letter = known-turn (suc (suc a)) (omega arith) (refuse-passes 9 _ _ (lt-leb _ _ free))
 
-  open-step : (m : Run) → m .reading .taken < mostEvents → m .reading .depth < room → m .reading .looks < ceiling
-      → fullStep R room ceiling m 0
-      ≡ turned
-      startTable
-      (m .reading .taken)
-      (treeStartMove R)
+  open-look : m .reading .depth < room
+      → OneLook (fullStep R room ceiling) m 0 startTable (treeStartMove R)
       (λ q. stores (opened (m .reading)) (looked (m .reading) q (m .reading .depth + 1)))
-      (m .levels)
-  unfolding fullStep fullEvent fullTurn eventOf
-  open-step m limit depth looks =
-      ap
-      (λ x. x giving λ turn. given (runAfter (m .levels) turn))
-      (known-passes (m .reading) 0 _ limit (omega arith)
-      ∙ (refuse-passes 8 _ _ (lt-leb _ _ depth) ∙ refuse-passes 9 _ _ (lt-leb _ _ looks)))
+  unfolding fullTurn eventOf
+  open-look depth = known-turn 0 (omega arith) (refuse-passes 8 _ _ (lt-leb _ _ depth) ∙ refuse-passes 9 _ _ (lt-leb _ _ free))
 
-  close-step : (m : Run) → m .reading .taken < mostEvents → 0 < m .reading .depth → m .reading .looks < ceiling
-      → fullStep R room ceiling m 1
-      ≡ turned
-      treeTable
-      (m .reading .taken)
-      (treeMove R (innermost (m .levels) .above) (m .reading .state))
+  close-look : 0 < m .reading .depth
+      → OneLook (fullStep R room ceiling) m 1 treeTable (treeMove R (innermost (m .levels) .above) (m .reading .state))
       (λ q. ends (looked (m .reading) q (m .reading .depth - 1)))
-      (m .levels)
-  unfolding fullStep fullEvent fullTurn eventOf
-  close-step m limit depth looks =
+  unfolding fullTurn eventOf
+  close-look depth =
       let inside : m .reading .depth ≡ 0 → ⊥ = λ e. omega arith in
-      ap
-      (λ x. x giving λ turn. given (runAfter (m .levels) turn))
-      (known-passes (m .reading) 1 _ limit (omega arith)
-      ∙ (refuse-passes 7 _ _ (ne-eqb _ _ inside) ∙ refuse-passes 9 _ _ (lt-leb _ _ looks)))
+      known-turn 1 (omega arith) (refuse-passes 7 _ _ (ne-eqb _ _ inside) ∙ refuse-passes 9 _ _ (lt-leb _ _ free))
 
 -- ---- where feeding the events of a hedge leads
 
@@ -146,18 +130,11 @@ ahead m q n = record {
   levels = m .levels;
 }
 
--- two runs that differ only in how their numbers are written
-ahead-same : (m m′ : Run) (n n′ q : ℕ) → m′ .reading .depth ≡ m .reading .depth → m′ .reading .skip ≡ m .reading .skip
-    → m′ .reading .taken + n′ ≡ m .reading .taken + n → m′ .reading .looks + n′ ≡ m .reading .looks + n
-    → m′ .levels ≡ m .levels → ahead m′ q n′ ≡ ahead m q n
-ahead-same m m′ n n′ q depth skip taken looks levels = λ i.
-    record {
-      reading = record { state = q; depth = depth i; skip = skip i; taken = taken i; looks = looks i };
-      levels = levels i;
-    }
-
 ahead-none : (m : Run) → m ≡ ahead m (m .reading .state) 0
 ahead-none m = simp add-zero
+
+ahead-on : (m : Run) (p q k n : ℕ) → ahead (ahead m p k) q n ≡ ahead m q (k + n)
+ahead-on m p q k n = simp add-assoc
 
 -- Feeding so many events and then the rest goes where the hedge of these events leads: to its state, and there the rest is fed;
 -- or to a refusal at the event whose move is missing.
@@ -168,40 +145,33 @@ data Follows (step : Run → ℕ → Answer Run) (m : Run) (n : ℕ) (rest : Lis
 
 module _ {step : Run → ℕ → Answer Run} {m : Run} {n : ℕ} {rest : List ℕ} where
   -- by a move at an event, and on
-  byMove-follows : (m′ : Run) (e : ℕ) (es : List ℕ) (table : Table) (x : Move) (i : ℕ) (turn : ℕ → Turn) {place : ℕ} {next : ℕ → Led}
-      → step m′ e ≡ turned table place x turn (m′ .levels)
-      → place ≡ m .reading .taken + i
+  byMove-follows : {m′ : Run} {e : ℕ} (es : List ℕ) {table : Table} {x : Move} (i : ℕ) {turn : ℕ → Turn} {next : ℕ → Led}
+      → m′ .reading .taken ≡ m .reading .taken + i
+      → OneLook step m′ e table x turn
       → ((q : ℕ) → Follows step m n rest (feedBy step (runAfter (m′ .levels) (turn q)) es) (next q))
       → Follows step m n rest (feedBy step m′ (e ∷ es)) (byMove table x i next)
   unfolding byMove
-  byMove-follows m′ e es table noMove i turn steps there on =
-      stops
-      (ap (λ w. w .ended) (feed-refused step es (steps ∙ turned-none table _ turn (m′ .levels) refl))
-      ∙ ap (refused (noMoveNumber table)) there)
-  byMove-follows m′ e es table (to q) i turn steps there on =
-      rw (feed-taken step es (steps ∙ turned-to table _ turn (m′ .levels) refl)) (on q)
+  byMove-follows es {table} {x = noMove} i place one on =
+      stops (ap (λ w. w .ended) (feed-refused step es (look-none one)) ∙ ap (refused (noMoveNumber table)) place)
+  byMove-follows es {x = to q} i place one on = rw (feed-taken step es (look-to one)) (on q)
 
   -- the same after so many events
-  later-follows : (m′ : Run) {n′ : ℕ} (k : ℕ) {fed : Went Run} {led : Led} → m′ .reading .taken ≡ m .reading .taken + k
-      → ((q : ℕ) → ahead m′ q n′ ≡ ahead m q n)
-      → Follows step m′ n′ rest fed led → Follows step m n rest fed (later k led)
+  later-follows : {p n′ : ℕ} (k : ℕ) {fed : Went Run} {led : Led} → n ≡ k + n′
+      → Follows step (ahead m p k) n′ rest fed led → Follows step m n rest fed (later k led)
   unfolding later
-  later-follows m′ k place same (arrives e) = arrives (e ∙ ap (λ a. feedBy step a rest) (same _))
-  later-follows m′ k place same (stops {table} {i} e) =
-      let there : m′ .reading .taken + i ≡ m .reading .taken + (k + i) = omega arith in
-      stops (e ∙ ap (refused (noMoveNumber table)) there)
+  later-follows {p} k same (arrives {q} e) =
+      arrives (e ∙ ap (λ a. feedBy step a rest) (ahead-on m p q k _ ∙ ap (ahead m q) (sym same)))
+  later-follows k same (stops e) = stops (rw add-assoc at e)
 
   -- from where a part led, on
-  fromThere-follows : (m′ : Run) {n′ : ℕ} (k : ℕ) {rest′ : List ℕ} {fed : Went Run} {led : Led} (next : ℕ → Led)
+  fromThere-follows : {m′ : Run} {n′ : ℕ} (k : ℕ) {rest′ : List ℕ} {fed : Went Run} {led : Led} {next : ℕ → Led}
       → m′ .reading .taken ≡ m .reading .taken + k
       → Follows step m′ n′ rest′ fed led
       → ((q : ℕ) → Follows step m n rest (feedBy step (ahead m′ q n′) rest′) (next q))
       → Follows step m n rest fed (fromThere (later k led) next)
   unfolding later fromThere
-  fromThere-follows m′ k next place (arrives e) on = rw e (on _)
-  fromThere-follows m′ k next place (stops {table} {i} e) on =
-      let there : m′ .reading .taken + i ≡ m .reading .taken + (k + i) = omega arith in
-      stops (e ∙ ap (refused (noMoveNumber table)) there)
+  fromThere-follows k place (arrives e) on = rw e (on _)
+  fromThere-follows k place (stops e) on = stops (rw (place, add-assoc) at e)
 
 -- ---- by induction on the hedge
 
@@ -215,85 +185,52 @@ height-of-tree : (h g : Hedge) → (suc (height h) ≤ height (⟨ h ⟩· g)) �
 unfolding height
 height-of-tree h g = greater (suc (height h)) (height g) _ refl
 
+-- the run inside a tree that opened, with its inner state
+abbrev inTree : Run → ℕ → Run
+inTree m p = runAfter (m .levels) (stores (opened (m .reading)) (looked (m .reading) p (m .reading .depth + 1)))
+
+-- the run after that tree closed
+abbrev pastTree : Run → ℕ → Run
+pastTree m q = runAfter (m .levels) (ends (looked (m .reading) q (m .reading .depth - 1)))
+
+past-ahead : (m : Run) (p p′ q n : ℕ) → pastTree (ahead (inTree m p) p′ n) q ≡ ahead m q (2 + n)
+unfolding runAfter looked opened outer
+past-ahead m p p′ q n =
+    let depth : m .reading .depth + 1 - 1 ≡ m .reading .depth = omega arith in
+    let taken : m .reading .taken + 1 + n + 1 ≡ m .reading .taken + (2 + n) = omega arith in
+    let looks : m .reading .looks + 1 + n + 1 ≡ m .reading .looks + (2 + n) = omega arith in
+    rw (depth, taken, looks)
+
 module _ (R : Rule) (room ceiling : ℕ) where
   follow : (h : Hedge) (m : Run) (rest : List ℕ) → known (R .letters) h ≡ true
       → m .reading .depth + height h ≤ room
       → m .reading .looks + length (eventsOf h) ≤ ceiling
       → m .reading .taken + length (eventsOf h) ≤ mostEvents
-      → Follows
-      (fullStep R room ceiling)
-      m
-      (length (eventsOf h))
-      rest
+      → Follows (fullStep R room ceiling) m (length (eventsOf h)) rest
       (feedBy (fullStep R room ceiling) m (eventsOf h ++ rest))
       (evaluate R (m .reading .state) h)
   unfolding eventsOf known height evaluate looked opened runAfter innermost outer
   follow ε m rest letters levels looks taken = arrives (ap (λ a. feedBy (fullStep R room ceiling) a rest) (ahead-none m))
   follow (a · h) m rest letters levels looks taken =
       let letter = and-true _ _ letters in
-      byMove-follows
-      m
-      (suc (suc a))
-      (eventsOf h ++ rest)
-      letterTable
-      (letterMove R (m .reading .state) a)
-      0
-      _
-      (letter-step R room ceiling m a (omega arith) (ltb-true _ _ (letter .0)) (omega arith))
-      (omega arith)
-      (λ q.
-      let m′ : Run = ahead m q 1 in
-      later-follows
-      m′
-      1
-      refl
-      (λ q′. ahead-same m m′ (suc (length (eventsOf h))) (length (eventsOf h)) q′ refl refl (omega arith) (omega arith) refl)
-      (follow h m′ rest (letter .1) levels (omega arith) (omega arith)))
+      byMove-follows (eventsOf h ++ rest) 0 (omega arith)
+      (letter-look R room ceiling m (omega arith) (omega arith) a (ltb-true _ _ (letter .0)))
+      (λ q. later-follows 1 (omega arith) (follow h (ahead m q 1) rest (letter .1) levels (omega arith) (omega arith)))
   follow (⟨ h ⟩· g) m rest letters levels looks taken =
       let both = and-true _ _ letters in
       let tall = height-of-tree h g in
       let n : ℕ = length (eventsOf h) in
-      let k : ℕ = length (eventsOf g) in
-      let long : length (eventsOf h ++ (1 ∷ eventsOf g)) ≡ n + suc k = length-append (eventsOf h) (1 ∷ eventsOf g) in
+      let long : length (eventsOf h ++ (1 ∷ eventsOf g)) ≡ n + suc (length (eventsOf g)) = length-append (eventsOf h) (1 ∷ eventsOf g) in
       rw append-assoc
-      (byMove-follows
-      m
-      0
-      (eventsOf h ++ (1 ∷ (eventsOf g ++ rest)))
-      startTable
-      (treeStartMove R)
-      0
-      _
-      (open-step R room ceiling m (omega arith) (omega arith) (omega arith))
-      (omega arith)
-      (λ p.
-      let inside : Run = runAfter (m .levels) (stores (opened (m .reading)) (looked (m .reading) p (m .reading .depth + 1))) in
-      fromThere-follows
-      inside
-      1
-      _
-      refl
-      (follow h inside (1 ∷ (eventsOf g ++ rest)) (both .0) (omega arith) (omega arith) (omega arith))
-      (λ p′.
-      let full : Run = ahead inside p′ n in
-      byMove-follows
-      full
-      1
-      (eventsOf g ++ rest)
-      treeTable
-      (treeMove R (m .reading .state) p′)
-      (1 + n)
-      _
-      (close-step R room ceiling full (omega arith) (omega arith) (omega arith))
-      (omega arith)
-      (λ q.
-      let after : Run = runAfter (full .levels) (ends (looked (full .reading) q (full .reading .depth - 1))) in
-      later-follows
-      after
-      (2 + n)
-      (omega arith)
-      (λ q′. ahead-same m after _ k q′ (omega arith) refl (omega arith) (omega arith) refl)
-      (follow g after rest (both .1) (omega arith) (omega arith) (omega arith))))))
+      (byMove-follows (eventsOf h ++ (1 ∷ (eventsOf g ++ rest))) 0 (omega arith)
+      (open-look R room ceiling m (omega arith) (omega arith) (omega arith))
+      (λ p. fromThere-follows 1 refl
+      (follow h (inTree m p) (1 ∷ (eventsOf g ++ rest)) (both .0) (omega arith) (omega arith) (omega arith))
+      (λ p′. byMove-follows (eventsOf g ++ rest) (1 + n) (omega arith)
+      (close-look R room ceiling (ahead (inTree m p) p′ n) (omega arith) (omega arith) (omega arith))
+      (λ q. rw (past-ahead m p p′ q n)
+      (later-follows (2 + n) (omega arith)
+      (follow g (ahead m q (2 + n)) rest (both .1) (omega arith) (omega arith) (omega arith)))))))
 
 -- ---- full reading of a hedge's events
 

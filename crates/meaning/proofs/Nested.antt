@@ -8,7 +8,7 @@ use Prim.Native.Nat.{ℕ, zero, suc, _+_, _<_, _≤_}
 use native.Mathlib.Omega.{arith}
 use lib.ListN.{length}
 use borrow.Author.Tests.{ltb-true, ltb-false, lt-ltb, le-ltb, eqb-true}
-use Rattle.meaning.specs.Answers.{_<?_, _=?_}
+use Rattle.meaning.specs.Answers.{_<?_}
 use Rattle.meaning.specs.FullReading.{Event, opens, closes, letter, eventOf}
 use Rattle.meaning.specs.Hedges.{Hedge, ε, _·_, ⟨_⟩·_, eventsOf, known, nestedOn, nestedFrom, knownEvents, wellNested}
 use Rattle.meaning.proofs.Answered.{and-true, both-true}
