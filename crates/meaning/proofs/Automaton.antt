@@ -1,0 +1,305 @@
+-- Full reading follows the automaton event for event. Where a hedge leads is a step of the automaton exactly if it is a state;
+-- and where the limits suffice, full reading of the hedge's events comes to that state with the open levels as they were, or is
+-- refused at the very event whose move is missing. By induction on the hedge, with events to follow it, and a law for each
+-- word in which `evaluate` is written.
+use mathlib.Core.Path.{_≡_, refl, sym, ap, _∙_}
+use mathlib.Core.Logic.{_↔_}
+use mathlib.Core.Bool.{Bool, true, false}
+use mathlib.Core.List.{List, [], _∷_, _++_, append-assoc, append-nil}
+use Prim.Native.Nat.{ℕ, suc, _+_, _-_, _≤_, _<_}
+use native.Mathlib.Omega.{arith}
+use native.Mathlib.Nat.{add-zero, add-assoc}
+use lib.ListN.{length, length-append}
+use borrow.Author.Tests.{ltb-true, leb-true, leb-false, lt-leb, ne-eqb}
+use Rattle.meaning.specs.declared.Level.{Level}
+use Rattle.meaning.specs.Answers.{Answer, given, refused, _giving_, _≤?_, if_then_else_}
+use Rattle.meaning.specs.RuleFile.{Rule, Move, noMove, to, letterMove, treeMove, treeStartMove}
+use Rattle.meaning.specs.FullReading.{eventOf, mostEvents, looked, Table, letterTable, startTable, treeTable, noMoveNumber, Turn, stays, stores, ends, look, opened, fullTurn, knownEvent, fullEvent, Run, innermost, outer, runAfter, fullStep, Went, feedBy}
+use Rattle.meaning.specs.Hedges.{Hedge, ε, _·_, ⟨_⟩·_, eventsOf, known, Goes, byNothing, byLetter, byTree, Led, toState, missingAt, later, byMove, fromThere, evaluate, height}
+use Rattle.meaning.proofs.Answered.{refuse-passes, and-true}
+use Rattle.meaning.proofs.FeedLaws.{feed-none, feed-taken, feed-refused}
+
+-- ---- what led to a state
+
+byMove-to : (table : Table) (x : Move) (i : ℕ) (next : ℕ → Led) {q : ℕ} → byMove table x i next ≡ toState q
+    → (p : ℕ) × (x ≡ to p) × (next p ≡ toState q)
+unfolding byMove
+byMove-to table noMove i next e = let z : _≡_ {A = ℕ} 0 1 = cc in absurd (omega arith)
+byMove-to table (to p) i next e = (p, refl, e)
+
+later-to : (n : ℕ) (x : Led) {q : ℕ} → later n x ≡ toState q → x ≡ toState q
+unfolding later
+later-to n (toState p) e = e
+later-to n (missingAt table i) e = let z : _≡_ {A = ℕ} 0 1 = cc in absurd (omega arith)
+
+fromThere-to : (x : Led) (next : ℕ → Led) {q : ℕ} → fromThere x next ≡ toState q
+    → (p : ℕ) × (x ≡ toState p) × (next p ≡ toState q)
+unfolding fromThere
+fromThere-to (toState p) next e = (p, refl, e)
+fromThere-to (missingAt table i) next e = let z : _≡_ {A = ℕ} 0 1 = cc in absurd (omega arith)
+
+pub evaluates-goes : (R : Rule) (q : ℕ) (h : Hedge) {q′ : ℕ} → evaluate R q h ≡ toState q′ → Goes R q h q′
+unfolding evaluate
+evaluates-goes R q ε {q′} e = let same : q′ ≡ q = cc in rw same byNothing
+evaluates-goes R q (a · h) e =
+    let m = byMove-to letterTable _ 0 _ e in
+    byLetter (m .1) (evaluates-goes R (m .0) h (later-to 1 _ (m .2)))
+evaluates-goes R q (⟨ h ⟩· g) e =
+    let start = byMove-to startTable _ 0 _ e in
+    let inner = fromThere-to _ _ (start .2) in
+    let close = byMove-to treeTable _ _ _ (inner .2) in
+    byTree
+    (start .1)
+    (evaluates-goes R (start .0) h (later-to 1 _ (inner .1)))
+    (close .1)
+    (evaluates-goes R (close .0) g (later-to _ _ (close .2)))
+
+pub goes-evaluates : {R : Rule} {q q′ : ℕ} {h : Hedge} → Goes R q h q′ → evaluate R q h ≡ toState q′
+unfolding evaluate byMove later fromThere
+goes-evaluates byNothing = refl
+goes-evaluates (byLetter m g) = rw (m, byMove, goes-evaluates g, later)
+goes-evaluates (byTree s g m k) = rw (s, byMove, goes-evaluates g, later, fromThere, m, byMove, goes-evaluates k, later)
+
+pub evaluate-goes : (R : Rule) (q : ℕ) (h : Hedge) (q′ : ℕ) → (evaluate R q h ≡ toState q′) ↔ Goes R q h q′
+evaluate-goes R q h q′ = (evaluates-goes R q h, goes-evaluates)
+
+-- so a hedge leads to one state only
+pub goes-one : {R : Rule} {q p p′ : ℕ} {h : Hedge} → Goes R q h p → Goes R q h p′ → p ≡ p′
+goes-one g k = cc (goes-evaluates g, goes-evaluates k)
+
+-- ---- one event of full reading, where the limits let it look
+
+-- an event is one look: where there is a move the turn is made, and otherwise the event is refused at its place
+record OneLook (step : Run → ℕ → Answer Run) (m : Run) (e : ℕ) (table : Table) (x : Move) (next : ℕ → Turn) : Type 0 where
+  by-it : step m e ≡ (look table (m .reading .taken) x next giving λ turn. given (runAfter (m .levels) turn))
+
+look-to : {step : Run → ℕ → Answer Run} {m : Run} {e : ℕ} {table : Table} {q : ℕ} {next : ℕ → Turn}
+    → OneLook step m e table (to q) next → step m e ≡ given (runAfter (m .levels) (next q))
+unfolding look _giving_
+look-to one = one .by-it
+
+look-none : {step : Run → ℕ → Answer Run} {m : Run} {e : ℕ} {table : Table} {next : ℕ → Turn}
+    → OneLook step m e table noMove next → step m e ≡ refused (noMoveNumber table) (m .reading .taken)
+unfolding look _giving_
+look-none one = one .by-it
+
+module _ (R : Rule) (room ceiling : ℕ) (m : Run) (limit : m .reading .taken < mostEvents) (free : m .reading .looks < ceiling) where
+  -- a known event whose turn is a look, once its own tests have passed
+  known-turn : (e : ℕ) {table : Table} {x : Move} {next : ℕ → Turn} → e < R .letters + 2
+      → fullTurn R room ceiling (m .reading) (innermost (m .levels)) (eventOf e) ≡ look table (m .reading .taken) x next
+      → OneLook (fullStep R room ceiling) m e table x next
+  unfolding fullStep fullEvent knownEvent
+  known-turn e letter turn = record {
+    by-it = ap
+        (λ x. x giving λ turn. given (runAfter (m .levels) turn))
+        (refuse-passes 16 _ _ (lt-leb _ _ limit) ∙ (refuse-passes 10 _ _ (lt-leb _ _ letter) ∙ turn));
+  }
+
+  letter-look : (a : ℕ) → a < R .letters
+      → OneLook (fullStep R room ceiling) m (suc (suc a)) letterTable (letterMove R (m .reading .state) a)
+      (λ q. stays (looked (m .reading) q (m .reading .depth)))
+  unfolding fullTurn eventOf
+  letter-look a letter = known-turn (suc (suc a)) (omega arith) (refuse-passes 9 _ _ (lt-leb _ _ free))
+
+  open-look : m .reading .depth < room
+      → OneLook (fullStep R room ceiling) m 0 startTable (treeStartMove R)
+      (λ q. stores (opened (m .reading)) (looked (m .reading) q (m .reading .depth + 1)))
+  unfolding fullTurn eventOf
+  open-look depth = known-turn 0 (omega arith) (refuse-passes 8 _ _ (lt-leb _ _ depth) ∙ refuse-passes 9 _ _ (lt-leb _ _ free))
+
+  close-look : 0 < m .reading .depth
+      → OneLook (fullStep R room ceiling) m 1 treeTable (treeMove R (innermost (m .levels) .above) (m .reading .state))
+      (λ q. ends (looked (m .reading) q (m .reading .depth - 1)))
+  unfolding fullTurn eventOf
+  close-look depth =
+      let inside : m .reading .depth ≡ 0 → ⊥ = λ e. omega arith in
+      known-turn 1 (omega arith) (refuse-passes 7 _ _ (ne-eqb _ _ inside) ∙ refuse-passes 9 _ _ (lt-leb _ _ free))
+
+-- ---- where feeding the events of a hedge leads
+
+-- the run after so many events, each a look, that lead to a state and leave the levels as they were
+abbrev pub ahead : Run → ℕ → ℕ → Run
+ahead m q n = record {
+  reading = record {
+    state = q;
+    depth = m .reading .depth;
+    skip = m .reading .skip;
+    taken = m .reading .taken + n;
+    looks = m .reading .looks + n;
+  };
+  levels = m .levels;
+}
+
+ahead-none : (m : Run) → m ≡ ahead m (m .reading .state) 0
+ahead-none m = simp add-zero
+
+ahead-on : (m : Run) (p q k n : ℕ) → ahead (ahead m p k) q n ≡ ahead m q (k + n)
+ahead-on m p q k n = simp add-assoc
+
+-- Feeding so many events and then the rest goes where the hedge of these events leads: to its state, and there the rest is fed;
+-- or to a refusal at the event whose move is missing.
+data Follows (step : Run → ℕ → Answer Run) (m : Run) (n : ℕ) (rest : List ℕ) (fed : Went Run) : Led → Type 0 where
+  arrives : {q : ℕ} → fed ≡ feedBy step (ahead m q n) rest → Follows step m n rest fed (toState q)
+  stops : {table : Table} {i : ℕ} → fed .ended ≡ refused (noMoveNumber table) (m .reading .taken + i)
+      → Follows step m n rest fed (missingAt table i)
+
+module _ {step : Run → ℕ → Answer Run} {m : Run} {n : ℕ} {rest : List ℕ} where
+  -- by a move at an event, and on
+  byMove-follows : {m′ : Run} {e : ℕ} (es : List ℕ) {table : Table} {x : Move} (i : ℕ) {turn : ℕ → Turn} {next : ℕ → Led}
+      → m′ .reading .taken ≡ m .reading .taken + i
+      → OneLook step m′ e table x turn
+      → ((q : ℕ) → Follows step m n rest (feedBy step (runAfter (m′ .levels) (turn q)) es) (next q))
+      → Follows step m n rest (feedBy step m′ (e ∷ es)) (byMove table x i next)
+  unfolding byMove
+  byMove-follows es {table} {x = noMove} i place one on =
+      stops (ap (λ w. w .ended) (feed-refused step es (look-none one)) ∙ ap (refused (noMoveNumber table)) place)
+  byMove-follows es {x = to q} i place one on = rw (feed-taken step es (look-to one)) (on q)
+
+  -- the same after so many events
+  later-follows : {p n′ : ℕ} (k : ℕ) {fed : Went Run} {led : Led} → n ≡ k + n′
+      → Follows step (ahead m p k) n′ rest fed led → Follows step m n rest fed (later k led)
+  unfolding later
+  later-follows {p} k same (arrives {q} e) =
+      arrives (e ∙ ap (λ a. feedBy step a rest) (ahead-on m p q k _ ∙ ap (ahead m q) (sym same)))
+  later-follows k same (stops e) = stops (rw add-assoc at e)
+
+  -- from where a part led, on
+  fromThere-follows : {m′ : Run} {n′ : ℕ} (k : ℕ) {rest′ : List ℕ} {fed : Went Run} {led : Led} {next : ℕ → Led}
+      → m′ .reading .taken ≡ m .reading .taken + k
+      → Follows step m′ n′ rest′ fed led
+      → ((q : ℕ) → Follows step m n rest (feedBy step (ahead m′ q n′) rest′) (next q))
+      → Follows step m n rest fed (fromThere (later k led) next)
+  unfolding later fromThere
+  fromThere-follows k place (arrives e) on = rw e (on _)
+  fromThere-follows k place (stops e) on = stops (rw (place, add-assoc) at e)
+
+-- ---- by induction on the hedge
+
+-- the greater of two numbers, as `height` writes it
+greater : (x y : ℕ) (b : Bool) → (y ≤? x) ≡ b → (x ≤ (if b then x else y)) × (y ≤ (if b then x else y))
+unfolding if_then_else_
+greater x y true e = let h : y ≤ x = leb-true y x e in (omega arith, h)
+greater x y false e = let h : x < y = leb-false y x e in (omega arith, omega arith)
+
+height-of-tree : (h g : Hedge) → (suc (height h) ≤ height (⟨ h ⟩· g)) × (height g ≤ height (⟨ h ⟩· g))
+unfolding height
+height-of-tree h g = greater (suc (height h)) (height g) _ refl
+
+-- the run inside a tree that opened, with its inner state
+abbrev inTree : Run → ℕ → Run
+inTree m p = runAfter (m .levels) (stores (opened (m .reading)) (looked (m .reading) p (m .reading .depth + 1)))
+
+-- the run after that tree closed
+abbrev pastTree : Run → ℕ → Run
+pastTree m q = runAfter (m .levels) (ends (looked (m .reading) q (m .reading .depth - 1)))
+
+past-ahead : (m : Run) (p p′ q n : ℕ) → pastTree (ahead (inTree m p) p′ n) q ≡ ahead m q (2 + n)
+unfolding runAfter looked opened outer
+past-ahead m p p′ q n =
+    let depth : m .reading .depth + 1 - 1 ≡ m .reading .depth = omega arith in
+    let taken : m .reading .taken + 1 + n + 1 ≡ m .reading .taken + (2 + n) = omega arith in
+    let looks : m .reading .looks + 1 + n + 1 ≡ m .reading .looks + (2 + n) = omega arith in
+    rw (depth, taken, looks)
+
+module _ (R : Rule) (room ceiling : ℕ) where
+  follow : (h : Hedge) (m : Run) (rest : List ℕ) → known (R .letters) h ≡ true
+      → m .reading .depth + height h ≤ room
+      → m .reading .looks + length (eventsOf h) ≤ ceiling
+      → m .reading .taken + length (eventsOf h) ≤ mostEvents
+      → Follows (fullStep R room ceiling) m (length (eventsOf h)) rest
+      (feedBy (fullStep R room ceiling) m (eventsOf h ++ rest))
+      (evaluate R (m .reading .state) h)
+  unfolding eventsOf known height evaluate looked opened runAfter innermost outer
+  follow ε m rest letters levels looks taken = arrives (ap (λ a. feedBy (fullStep R room ceiling) a rest) (ahead-none m))
+  follow (a · h) m rest letters levels looks taken =
+      let letter = and-true _ _ letters in
+      byMove-follows (eventsOf h ++ rest) 0 (omega arith)
+      (letter-look R room ceiling m (omega arith) (omega arith) a (ltb-true _ _ (letter .0)))
+      (λ q. later-follows 1 (omega arith) (follow h (ahead m q 1) rest (letter .1) levels (omega arith) (omega arith)))
+  follow (⟨ h ⟩· g) m rest letters levels looks taken =
+      let both = and-true _ _ letters in
+      let tall = height-of-tree h g in
+      let n : ℕ = length (eventsOf h) in
+      let long : length (eventsOf h ++ (1 ∷ eventsOf g)) ≡ n + suc (length (eventsOf g)) = length-append (eventsOf h) (1 ∷ eventsOf g) in
+      rw append-assoc
+      (byMove-follows (eventsOf h ++ (1 ∷ (eventsOf g ++ rest))) 0 (omega arith)
+      (open-look R room ceiling m (omega arith) (omega arith) (omega arith))
+      (λ p. fromThere-follows 1 refl
+      (follow h (inTree m p) (1 ∷ (eventsOf g ++ rest)) (both .0) (omega arith) (omega arith) (omega arith))
+      (λ p′. byMove-follows (eventsOf g ++ rest) (1 + n) (omega arith)
+      (close-look R room ceiling (ahead (inTree m p) p′ n) (omega arith) (omega arith) (omega arith))
+      (λ q. rw (past-ahead m p p′ q n)
+      (later-follows (2 + n) (omega arith)
+      (follow g (ahead m q (2 + n)) rest (both .1) (omega arith) (omega arith) (omega arith)))))))
+
+-- ---- full reading of a hedge's events
+
+-- the letters of the hedge are the rule's, and the limits suffice for it: the level store, the ceiling of looks and the limit
+-- of events
+pub record Suffices (R : Rule) (room ceiling : ℕ) (m : Run) (h : Hedge) : Type 0 where
+  pub letters : known (R .letters) h ≡ true
+  pub levels : m .reading .depth + height h ≤ room
+  pub looks : m .reading .looks + length (eventsOf h) ≤ ceiling
+  pub taken : m .reading .taken + length (eventsOf h) ≤ mostEvents
+
+follows-to : {step : Run → ℕ → Answer Run} {m : Run} {n : ℕ} {fed : Went Run} {led : Led} {q : ℕ}
+    → Follows step m n [] fed led → led ≡ toState q → fed ≡ record { last = ahead m q n; ended = given tt }
+follows-to {step} {m} {n} {q} (arrives {q = q₁} e) same =
+    let there : q₁ ≡ q = cc in
+    e ∙ (feed-none step (ahead m q₁ n) ∙ rw there)
+follows-to (stops e) same = let z : _≡_ {A = ℕ} 0 1 = cc in absurd (omega arith)
+
+follows-missing : {step : Run → ℕ → Answer Run} {m : Run} {n : ℕ} {fed : Went Run} {led : Led} {table : Table} {i : ℕ}
+    → Follows step m n [] fed led → led ≡ missingAt table i → fed .ended ≡ refused (noMoveNumber table) (m .reading .taken + i)
+follows-missing (arrives e) same = let z : _≡_ {A = ℕ} 0 1 = cc in absurd (omega arith)
+follows-missing (stops e) same = cc
+
+-- feeding took all events, and came to a state with these levels
+pub record Comes (fed : Went Run) (q : ℕ) (levels : List Level) : Type 0 where
+  pub allTaken : fed .ended ≡ given tt
+  pub inState : fed .last .reading .state ≡ q
+  pub withLevels : fed .last .levels ≡ levels
+
+come-to : {step : Run → ℕ → Answer Run} {m : Run} {n : ℕ} {fed : Went Run} {led : Led} {q : ℕ}
+    → Follows step m n [] fed led → Comes fed q (m .levels) → led ≡ toState q
+come-to {step} {m} {n} (arrives {q = q₁} e) comes =
+    ap toState (sym (ap (λ w. w .last .reading .state) (e ∙ feed-none step (ahead m q₁ n))) ∙ comes .inState)
+come-to (stops e) comes = let z : _≡_ {A = ℕ} 0 1 = cc in absurd (omega arith)
+
+module _ (R : Rule) (room ceiling : ℕ) (m : Run) (h : Hedge) (enough : Suffices R room ceiling m h) where
+  followed : Follows
+      (fullStep R room ceiling)
+      m
+      (length (eventsOf h))
+      []
+      (feedBy (fullStep R room ceiling) m (eventsOf h))
+      (evaluate R (m .reading .state) h)
+  followed =
+      rw append-nil at (follow R room ceiling h m [] (enough .letters) (enough .levels) (enough .looks) (enough .taken))
+
+  -- where the hedge leads to a state, all its events are taken, each as one look, and reading is in that state with the levels
+  -- as they were
+  pub full-follows : {q′ : ℕ} → evaluate R (m .reading .state) h ≡ toState q′
+      → feedBy (fullStep R room ceiling) m (eventsOf h)
+      ≡ record { last = ahead m q′ (length (eventsOf h)); ended = given tt }
+  full-follows e = follows-to followed e
+
+  -- where a move is missing, the event that wants it is refused, at its own place
+  pub full-refuses : {table : Table} {i : ℕ} → evaluate R (m .reading .state) h ≡ missingAt table i
+      → feedBy (fullStep R room ceiling) m (eventsOf h) .ended ≡ refused (noMoveNumber table) (m .reading .taken + i)
+  full-refuses e = follows-missing followed e
+
+  -- all events are taken, and reading comes to a state with the levels as they were, exactly if the automaton goes to that
+  -- state by the hedge
+  pub full-follows-goes : (q′ : ℕ)
+      → Comes (feedBy (fullStep R room ceiling) m (eventsOf h)) q′ (m .levels) ↔ Goes R (m .reading .state) h q′
+  full-follows-goes q′ = (
+    λ comes. evaluates-goes R (m .reading .state) h (come-to followed comes),
+    λ goes.
+        let there = full-follows (goes-evaluates goes) in
+        record {
+          allTaken = ap (λ w. w .ended) there;
+          inState = ap (λ w. w .last .reading .state) there;
+          withLevels = ap (λ w. w .last .levels) there;
+        },
+  )
