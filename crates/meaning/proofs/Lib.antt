@@ -3,3 +3,6 @@ pub mod Answered
 pub mod Accepted
 pub mod Cases
 pub mod Bools
+pub mod FeedKeeps
+pub mod Turns
+pub mod StoreView
