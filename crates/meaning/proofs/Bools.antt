@@ -29,6 +29,10 @@ pub or-true : (a b : Bool) → (a || b) ≡ true → (a ≡ false) → b ≡ tru
 or-true true b e z = true-is-not-false refl z
 or-true false b e z = e
 
+pub or-true-first : (a b : Bool) → (a || b) ≡ true → (b ≡ false) → a ≡ true
+or-true-first true b e z = refl
+or-true-first false b e z = true-is-not-false e z
+
 pub or-true-left : {a : Bool} (b : Bool) → a ≡ true → (a || b) ≡ true
 or-true-left b e = rw e
 
@@ -42,7 +46,7 @@ both-false p q = rw p q
 -- ---- the numbers below n
 
 -- a number below suc n is the last one or lies below n
-below : {P : ℕ → Type 0} (n i : ℕ) → i < suc n → ((j : ℕ) → j < n → P j) → P n → P i
+pub below : {P : ℕ → Type 0} (n i : ℕ) → i < suc n → ((j : ℕ) → j < n → P j) → P n → P i
 below {P} n i h before last = go (eq-or-lt-of-le (le-of-suc-le-suc h))
   where
     go : (i ≡ n) ⊎ (i < n) → P i

@@ -6,3 +6,5 @@ pub mod Bools
 pub mod FeedKeeps
 pub mod Turns
 pub mod StoreView
+pub mod Moves
+pub mod StillReading
