@@ -8,3 +8,5 @@ pub mod Turns
 pub mod StoreView
 pub mod Moves
 pub mod StillReading
+pub mod ReadingCheck
+pub mod SplitFeeds
