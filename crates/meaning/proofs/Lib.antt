@@ -10,3 +10,4 @@ pub mod Moves
 pub mod StillReading
 pub mod ReadingCheck
 pub mod SplitFeeds
+pub mod OneAnswer
