@@ -11,3 +11,4 @@ pub mod StillReading
 pub mod ReadingCheck
 pub mod SplitFeeds
 pub mod OneAnswer
+pub mod Whole

@@ -10,9 +10,7 @@ use Rattle.meaning.specs.Answers.{Answer, given, refused}
 use Rattle.meaning.specs.RuleFile.{Rule}
 use Rattle.meaning.specs.FullReading.{Went, goOn, feedBy}
 use Rattle.meaning.specs.Calls.{Stored, storeStep, readingCheck, feedCall}
-use Rattle.meaning.proofs.Accepted.{accepted-is-rule}
-use Rattle.meaning.proofs.ReadingCheck.{check-says, check-passes, feed-checked, feed-unchecked}
-use Rattle.meaning.proofs.StillReading.{fed-reading}
+use Rattle.meaning.proofs.ReadingCheck.{feed-checked, feed-unchecked, fed-checked}
 
 module _ {A : Type 0} (step : A → ℕ → Answer A) where
   append-on : (ys : List ℕ) (first both : A → Went A)
@@ -46,15 +44,10 @@ module _ (file book : List ℕ) (ceiling : ℕ) (r : Reading) (store : List Leve
           let z : _≡_ {A = ℕ} 0 1 = cc in
           absurd (omega arith)
       go (given R) e =
-          let c = check-says file book r store e in
           let s : Stored = record { reading = r; store = store } in
-          let first = feed-checked file book r store ceiling xs e in
           let w : Went Stored = feedBy (storeStep R book ceiling) s xs in
-          let still = fed-reading (accepted-is-rule file (c .accepted)) book ceiling s xs (c .isReading) in
-          let again =
-          check-passes file book (w .last .reading) (w .last .store)
-          (record { accepted = c .accepted; longEnough = c .longEnough; isReading = still })
-          in
+          let first = feed-checked file book r store ceiling xs e in
+          let again = fed-checked file book ceiling s xs e in
           rw first
           (feed-checked file book r store ceiling (xs ++ ys) e ∙
           (feed-append (storeStep R book ceiling) s xs ys (rw first at h) ∙

@@ -179,11 +179,11 @@ store-is-levels R book ceiling r store es h =
     let size : ℕ = length store in
     let s : Stored = record { reading = r; store = store } in
     let start : InStore size s = record { stored = refl; within = h } in
+    let step = storeStep R book ceiling in
     let keeps = step-within R book ceiling size in
-    let kept = feed-keeps (storeStep R book ceiling) (InStore size) keeps s es start in
-    let same =
-    feed-viewed (storeStep R book ceiling) (InStore size) keeps viewOf (skipStep R book size ceiling) (step-viewed R book ceiling size) s es start
-    in
+    let kept = feed-keeps step (InStore size) keeps s es start in
+    let other = skipStep R book size ceiling in
+    let same = feed-viewed step (InStore size) keeps viewOf other (step-viewed R book ceiling size) s es start in
     record {
       ended = sym (ap (λ v. v .ended) same);
       reading = sym (ap (λ v. v .last .reading) same);
