@@ -7,3 +7,13 @@ pub mod FeedLaws
 pub mod ZeroBook
 pub mod Automaton
 pub mod Nested
+pub mod Bools
+pub mod FeedKeeps
+pub mod Turns
+pub mod StoreView
+pub mod Moves
+pub mod StillReading
+pub mod ReadingCheck
+pub mod SplitFeeds
+pub mod OneAnswer
+pub mod Whole
