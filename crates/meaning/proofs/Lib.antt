@@ -2,3 +2,5 @@
 pub mod Answered
 pub mod Accepted
 pub mod Cases
+pub mod Truths
+pub mod Reaching
