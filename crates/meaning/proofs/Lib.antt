@@ -4,3 +4,6 @@ pub mod Accepted
 pub mod Cases
 pub mod Truths
 pub mod Reaching
+pub mod Following
+pub mod Runs
+pub mod Demand3

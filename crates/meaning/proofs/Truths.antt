@@ -28,3 +28,7 @@ or-true-left b e = rw e
 pub or-true-right : (a : Bool) {b : Bool} → b ≡ true → (a || b) ≡ true
 or-true-right true e = refl
 or-true-right false e = e
+
+pub and-false-right : (a : Bool) {b : Bool} → b ≡ false → (a && b) ≡ false
+and-false-right true e = e
+and-false-right false e = refl
