@@ -17,3 +17,8 @@ pub mod ReadingCheck
 pub mod SplitFeeds
 pub mod OneAnswer
 pub mod Whole
+pub mod Truths
+pub mod Reaching
+pub mod Following
+pub mod Runs
+pub mod Demand3
