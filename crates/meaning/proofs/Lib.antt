@@ -3,3 +3,4 @@ pub mod Answered
 pub mod Accepted
 pub mod Cases
 pub mod Marks
+pub mod Rounds
