@@ -4,3 +4,4 @@ pub mod Accepted
 pub mod Cases
 pub mod Marks
 pub mod Rounds
+pub mod Bits
