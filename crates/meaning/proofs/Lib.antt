@@ -5,3 +5,4 @@ pub mod Cases
 pub mod Marks
 pub mod Rounds
 pub mod Bits
+pub mod BookMade

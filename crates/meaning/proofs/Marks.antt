@@ -111,6 +111,13 @@ listed-at zero f d i h = absurd (not-suc-le-zero h)
 listed-at (suc n) f d zero h = refl
 listed-at (suc n) f d (suc i) h = listed-at n (λ j. f (suc j)) d i (le-of-suc-le-suc h)
 
+-- what is true of each entry, and of what stands past the end, is true at every place
+pub listed-each : {A : Type 0} (P : A → Type 0) (n : ℕ) (f : ℕ → A) (d : A) → ((i : ℕ) → P (f i)) → P d → (i : ℕ) → P (getD (listed n f) i d)
+unfolding listed
+listed-each P zero f d each past i = past
+listed-each P (suc n) f d each past zero = each zero
+listed-each P (suc n) f d each past (suc i) = listed-each P n (λ j. f (suc j)) d (λ j. each (suc j)) past i
+
 pub listed-same : {A : Type 0} (n : ℕ) (f g : ℕ → A) → ((i : ℕ) → i < n → f i ≡ g i) → listed n f ≡ listed n g
 unfolding listed
 listed-same zero f g h = refl
