@@ -4,8 +4,9 @@ use mathlib.Core.Path.{_≡_, refl, sym, ap, ap₂, _∙_}
 use mathlib.Core.Logic.{_⊎_, inl, inr, ⊎-elim, _↔_}
 use mathlib.Core.Bool.{Bool, true, false, not, _&&_, _||_, false≢true}
 use mathlib.Core.List.{List, [], _∷_}
-use Prim.Native.Nat.{ℕ, zero, suc, _≤_, _<_, zero-le, suc-le-suc}
+use Prim.Native.Nat.{ℕ, zero, suc, _+_, _≤_, _<_, zero-le, suc-le-suc}
 use native.Mathlib.Nat.{not-suc-le-zero, le-of-suc-le-suc, eq-or-lt-of-le, le-step, le-refl}
+use native.Mathlib.Omega.{arith}
 use lib.ListN.{length, getD, List·getD-eq-default}
 use borrow.Author.Tests.{ltb-true, ltb-false}
 use Rattle.meaning.specs.Answers.{_<?_}
@@ -50,6 +51,10 @@ not-without true true e h = refl
 not-without true false e h = sym e
 not-without false b e h = absurd (false≢true h)
 
+pub never-both : (a : Bool) → (a && not a) ≡ false
+never-both true = refl
+never-both false = refl
+
 pub absurd-truth : {A : Type 0} {b : Bool} → b ≡ true → b ≡ false → A
 absurd-truth t f = absurd (false≢true (sym f ∙ t))
 
@@ -74,6 +79,10 @@ any-some (suc n) f e =
 
 pub any-none : (n : ℕ) (f : ℕ → Bool) → anyBelow n f ≡ false → (i : ℕ) → i < n → f i ≡ false
 any-none n f e i h = ⊎-elim (λ t. absurd-truth (any-at n f i h t) e) (λ g. g) (truth (f i))
+
+pub any-false : (n : ℕ) (f : ℕ → Bool) → ((i : ℕ) → i < n → f i ≡ false) → anyBelow n f ≡ false
+any-false n f h =
+    ⊎-elim (λ t. let s = any-some n f t in absurd-truth (s .2) (h (s .0) (s .1))) (λ e. e) (truth (anyBelow n f))
 
 pub all-at : (n : ℕ) (f : ℕ → Bool) → allBelow n f ≡ true → (i : ℕ) → i < n → f i ≡ true
 unfolding allBelow
@@ -140,3 +149,52 @@ marked-true n f p e = ⊎-elim inside outside (truth (p <? n))
     inside t = let h : p < n = ltb-true p n t in (h, sym (marked-below n f p h) ∙ e)
     outside : (p <? n) ≡ false → (p < n) × (f p ≡ true)
     outside t = absurd-truth e (marked-past n f p (ltb-false p n t))
+
+-- ---- how many numbers below n pass a test
+
+one : Bool → ℕ
+one true = 1
+one false = 0
+
+pub countBelow : ℕ → (ℕ → Bool) → ℕ
+countBelow zero f = 0
+countBelow (suc n) f = countBelow n f + one (f n)
+
+one-most : (b : Bool) → one b ≤ 1
+unfolding one
+one-most true = omega arith
+one-most false = omega arith
+
+one-more : (a b : Bool) → (a ≡ true → b ≡ true) → one a ≤ one b
+unfolding one
+one-more true b h = rw (h refl) (omega arith)
+one-more false b h = zero-le
+
+pub count-most : (n : ℕ) (f : ℕ → Bool) → countBelow n f ≤ n
+unfolding countBelow
+count-most zero f = zero-le
+count-most (suc n) f = omega (arith, count-most n f, one-most (f n))
+
+-- a test that more numbers pass counts more
+count-more : (n : ℕ) (f g : ℕ → Bool) → ((i : ℕ) → i < n → f i ≡ true → g i ≡ true) → countBelow n f ≤ countBelow n g
+unfolding countBelow
+count-more zero f g h = zero-le
+count-more (suc n) f g h =
+    omega (arith, count-more n f g (λ i l. h i (le-step l)), one-more (f n) (g n) (h n (le-refl (suc n))))
+
+pub count-less : (n : ℕ) (f g : ℕ → Bool) → ((i : ℕ) → i < n → f i ≡ true → g i ≡ true)
+    → (i : ℕ) → i < n → f i ≡ false → g i ≡ true → countBelow n f < countBelow n g
+unfolding countBelow one
+count-less zero f g h i l no-f yes-g = absurd (not-suc-le-zero l)
+count-less (suc n) f g h i l no-f yes-g =
+    ⊎-elim
+    (λ e. let rest = count-more n f g (λ j b. h j (le-step b)) in
+    let no-f′ : f n ≡ false = ap f (sym e) ∙ no-f in
+    let yes-g′ : g n ≡ true = ap g (sym e) ∙ yes-g in
+    rw (no-f′, yes-g′) (omega arith))
+    (λ b. omega (arith, count-less n f g (λ j c. h j (le-step c)) i b no-f yes-g, one-more (f n) (g n) (h n (le-refl (suc n)))))
+    (last-or-below l)
+
+-- a test that some number passes counts one at least
+pub count-some : (n : ℕ) (f : ℕ → Bool) (i : ℕ) → i < n → f i ≡ true → 0 < countBelow n f
+count-some n f i h e = omega (arith, count-less n (λ _. false) f (λ j l no. absurd (false≢true no)) i h refl e)

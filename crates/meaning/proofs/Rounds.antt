@@ -1,6 +1,6 @@
 -- When a round adds nothing, the marks are Reach. What a round marks was marked or is one move away, so what is marked is in
 -- Reach; marks that a round does not add to hold their start and are closed under moves, so they hold all of Reach.
-use mathlib.Core.Path.{_≡_, refl, sym, ap, _∙_, subst}
+use mathlib.Core.Path.{_≡_, refl, sym, ap, ap₂, _∙_, subst}
 use mathlib.Core.Logic.{_⊎_, inl, inr, ⊎-elim, _↔_}
 use mathlib.Core.Bool.{Bool, true, false, not, _&&_, _||_, false≢true}
 use mathlib.Core.List.{List, [], _∷_}
@@ -8,12 +8,12 @@ use Prim.Native.Nat.{ℕ, zero, suc, _*_, _+_, _≤_, _<_, zero-le, suc-le-suc}
 use native.Mathlib.Nat.{not-suc-le-zero, le-of-suc-le-suc}
 use native.Mathlib.Omega.{arith}
 use lib.ListN.{length, getD}
-use borrow.Author.Tests.{ltb-true, lt-ltb, eqb-true, eq-eqb}
-use Rattle.meaning.specs.Answers.{_<?_, _=?_}
-use Rattle.meaning.specs.RuleFile.{Rule, IsRule, Move, noMove, to, none, asMove, letterMove, treeMove, isMove, isState}
-use Rattle.meaning.specs.SkipBook.{canEndTree, Reach, itself, byLetter, byTree, anyBelow, allBelow, listed, marked, goesTo, oneMove, round, rounds, onlyState, reachedIn, adds, reachMarks}
+use borrow.Author.Tests.{ltb-true, lt-ltb, leb-true, eqb-true, eq-eqb, not-true}
+use Rattle.meaning.specs.Answers.{_<?_, _=?_, _≤?_}
+use Rattle.meaning.specs.RuleFile.{Rule, IsRule, Move, noMove, to, none, asMove, letterMove, treeMove, isMove, isState, isStates}
+use Rattle.meaning.specs.SkipBook.{canEndTree, Reach, itself, byLetter, byTree, anyBelow, allBelow, listed, marked, goesTo, oneMove, round, rounds, onlyState, reachedIn, adds, reachMarks, roundsUsedUp}
 use Rattle.meaning.proofs.Answered.{if-true, if-false, and-true, both-true}
-use Rattle.meaning.proofs.Marks.{truth, or-true, or-left, or-right, absurd-truth, not-without, any-at, any-some, any-none, marked-below, marked-true}
+use Rattle.meaning.proofs.Marks.{truth, same-truth, or-true, or-left, or-right, absurd-truth, not-without, any-at, any-some, any-none, any-false, any-same, never-both, listed-same, marked-below, marked-true, countBelow, count-most, count-less, count-some}
 
 -- ---- moves
 
@@ -193,3 +193,63 @@ module _ (R : Rule) where
     λ r. rw (next-round 63 q) (round-keeps (reachedIn R 63 q) p (reach-below rule h r)
     (reached-marked rule q (reachedIn R 63 q) h (start-marked 63 q h) (rw (next-round 63 q) at e) r)),
   )
+
+  -- ---- rounds are never used up: each round before the last adds one of at most 64 states
+
+  -- marks that agree go on alike
+  pub round-same : (marks marks′ : List Bool) → ((p : ℕ) → p < R .states → marked marks p ≡ marked marks′ p)
+      → round R marks ≡ round R marks′
+  unfolding round
+  round-same marks marks′ same =
+      listed-same (R .states) _ _ (λ p′ h. ap₂ (λ (a b : Bool). a || b) (same p′ h)
+      (any-same (R .states) _ _ (λ p l. ap (λ (a : Bool). a && oneMove R p p′) (same p l))))
+
+  -- after a round that adds nothing no round adds anything
+  pub round-rests : (marks : List Bool) → adds R marks (round R marks) ≡ false → round R (round R marks) ≡ round R marks
+  round-rests marks e =
+      round-same (round R marks) marks (λ p h. same-truth _ _ (nothing-added marks (round R marks) e p h) (round-keeps marks p h))
+
+  adds-none : (marks : List Bool) → adds R marks marks ≡ false
+  unfolding adds
+  adds-none marks = any-false (R .states) _ (λ p h. never-both (marked marks p))
+
+  rests : (i q : ℕ) → adds R (reachedIn R i q) (reachedIn R (suc i) q) ≡ false
+      → adds R (reachedIn R (suc i) q) (reachedIn R (suc (suc i)) q) ≡ false
+  rests i q e =
+      let r : List Bool = reachedIn R i q in
+      rw (next-round (suc i) q, next-round i q)
+      (ap (adds R (round R r)) (round-rests r (rw (next-round i q) at e)) ∙ adds-none (round R r))
+
+  -- a round that adds has more marks after it
+  adds-more : (marks : List Bool) → adds R marks (round R marks) ≡ true
+      → countBelow (R .states) (marked marks) < countBelow (R .states) (marked (round R marks))
+  unfolding adds
+  adds-more marks e =
+      let s = any-some (R .states) (λ p. marked (round R marks) p && not (marked marks p)) e in
+      let b = and-true (marked (round R marks) (s .0)) _ (s .2) in
+      count-less (R .states) (marked marks) (marked (round R marks)) (round-keeps marks) (s .0) (s .1) (not-true _ (b .1)) (b .0)
+
+  -- a round that adds comes after rounds that all added, so after it more than i states are marked
+  many-marked : (i q : ℕ) → q < R .states → adds R (reachedIn R i q) (reachedIn R (suc i) q) ≡ true
+      → suc i < countBelow (R .states) (marked (reachedIn R (suc i) q))
+  many-marked zero q h e =
+      let r : List Bool = reachedIn R zero q in
+      rw (next-round zero q)
+      (omega (arith, count-some (R .states) (marked r) q h (start-marked zero q h), adds-more r (rw (next-round zero q) at e)))
+  many-marked (suc i) q h e =
+      let r : List Bool = reachedIn R i q in
+      let added : adds R r (reachedIn R (suc i) q) ≡ true =
+          ⊎-elim (λ t. t) (λ f. absurd-truth e (rests i q f)) (truth (adds R r (reachedIn R (suc i) q))) in
+      let more = adds-more (reachedIn R (suc i) q) (rw (next-round (suc i) q) at e) in
+      rw (next-round (suc i) q) (omega (arith, many-marked i q h added, more))
+
+pub most-states : {R : Rule} → IsRule R → R .states ≤ 64
+unfolding isStates
+most-states {R} rule = leb-true (R .states) 64 (and-true (1 ≤? R .states) _ (rule .statesIn) .1)
+
+pub never-used-up : (R : Rule) → IsRule R → roundsUsedUp R ≡ false
+unfolding roundsUsedUp
+never-used-up R rule =
+    any-false (R .states) _ (λ q h. ⊎-elim
+    (λ e. absurd (omega (arith, many-marked R 63 q h e, count-most (R .states) (marked (reachedIn R 64 q)), most-states rule)))
+    (λ f. f) (truth (adds R (reachedIn R 63 q) (reachedIn R 64 q))))
