@@ -22,3 +22,7 @@ pub mod Reaching
 pub mod Following
 pub mod Runs
 pub mod Demand3
+pub mod Marks
+pub mod Rounds
+pub mod Bits
+pub mod BookMade
