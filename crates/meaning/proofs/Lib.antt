@@ -26,3 +26,4 @@ pub mod Marks
 pub mod Rounds
 pub mod Bits
 pub mod BookMade
+pub mod Demand3Calls

@@ -1,0 +1,139 @@
+-- Demand 3 about the calls themselves: for every file accepted and the book the maker writes for it, every stream of events,
+-- every level store and every ceiling. A feed over the lent store is a run over levels, and with a book of zeros it is full
+-- reading; so what is proved of runs is proved of the calls.
+use mathlib.Core.Path.{_≡_, refl, sym, ap, ap₂, _∙_}
+use mathlib.Core.Bool.{true, false}
+use mathlib.Core.List.{List, [], _∷_, _++_}
+use Prim.Native.Nat.{ℕ, zero, suc, _+_, _-_, _≤_, _<_}
+use native.Mathlib.Numerals.{add-one}
+use native.Mathlib.Omega.{arith}
+use lib.ListN.{length, getD, drop, replicate, length-replicate}
+use Rattle.meaning.specs.declared.Reading.{Reading}
+use Rattle.meaning.specs.declared.Level.{Level}
+use Rattle.meaning.specs.Answers.{Answer, given, refused, _giving_, if_then_else_, _<?_}
+use Rattle.meaning.specs.RuleFile.{Rule, IsRule, checkRule, ruleOf}
+use Rattle.meaning.specs.FullReading.{Went, Run, innermost, freshReading, blank, feedBy}
+use Rattle.meaning.specs.SkipBook.{IsBook, bookOf, makeBook, bookAfter}
+use Rattle.meaning.specs.PassedOver.{notPassedOver}
+use Rattle.meaning.specs.Calls.{Judged, Stored, storeStep, topOf, openPlace, endOf, feedCall, finishCall, finishFed, readingCheck}
+use Rattle.meaning.proofs.Answered.{giving-passes, giving-given, if-true, if-false}
+use Rattle.meaning.proofs.Accepted.{accepted-is-rule}
+use Rattle.meaning.proofs.BookMade.{made-is-book}
+use Rattle.meaning.proofs.Rounds.{never-used-up}
+use Rattle.meaning.proofs.Runs.{freshRun, fullRun, skipRun, endOfRun}
+use Rattle.meaning.proofs.ReadingCheck.{feed-checked, finish-checked, fed-checked}
+use Rattle.meaning.proofs.StoreView.{levelsOf, OneView, store-is-levels}
+use Rattle.meaning.proofs.Whole.{madeBook, made-says, made-length, fresh-checked}
+use Rattle.meaning.proofs.ZeroBook.{Zeros, zero-book}
+use Rattle.meaning.proofs.Demand3.{EndsAlike, demand-3}
+
+-- the book that a maker left is the rule's own
+pub made-own : (file lent : List ℕ) {count : ℕ} → makeBook file lent ≡ given count → IsBook (ruleOf file) (madeBook file lent)
+unfolding bookAfter
+made-own file lent e =
+    let R : Rule = ruleOf file in
+    let rule = accepted-is-rule file (made-says file lent e .accepted) in
+    rw (e, bookAfter) (made-is-book R rule (never-used-up R rule) (drop (R .states + 1) lent))
+
+-- the end of a reading over the store is the end of the run over its levels
+place-same : (depth taken : ℕ) (store : List Level)
+    → (if 0 <? depth then getD store (depth - 1) blank .opened else taken)
+    ≡ (if 0 <? depth then innermost (levelsOf depth store) .opened else taken)
+unfolding innermost levelsOf if_then_else_
+place-same zero taken store = refl
+place-same (suc d) taken store =
+    let down : suc d - 1 ≡ d = omega arith in
+    ap (λ (i : ℕ). if 0 <? suc d then getD store i blank .opened else taken) down
+
+end-same : (R : Rule) (r : Reading) (store : List Level) → endOf R r (topOf r store) ≡ endOf R r (innermost (levelsOf (r .depth) store))
+unfolding endOf openPlace topOf
+end-same R r store = rw (place-same (r .depth) (r .taken) store)
+
+-- ---- a feed from a fresh reading is a run
+
+module _ (file book : List ℕ) (store : List Level) (ceiling : ℕ) (events : List ℕ) {R : Rule}
+    (accepted : checkRule file ≡ given R) (long : R .states + 1 ≤ length book) where
+  abbrev fed : Went Stored
+  fed = feedCall file book ceiling (freshReading R) store events
+
+  abbrev run : Went Run
+  run = skipRun R book (length store) ceiling events
+
+  checked : readingCheck file book (freshReading R) store ≡ given R
+  checked = fresh-checked file book store accepted long
+
+  by-steps : fed ≡ feedBy (storeStep R book ceiling) (record { reading = freshReading R; store = store }) events
+  by-steps = feed-checked file book (freshReading R) store ceiling events checked
+
+  pub fed-is-run : OneView (length store) fed run
+  unfolding freshReading levelsOf
+  fed-is-run = rw by-steps (store-is-levels R book ceiling (freshReading R) store events (omega arith))
+
+  -- finish answers by the end of the run
+  pub finish-is-end : finishCall file book (fed .last .reading) (fed .last .store) ≡ endOfRun R (run .last)
+  finish-is-end =
+      let one = fed-is-run in
+      let again : readingCheck file book (fed .last .reading) (fed .last .store) ≡ given R =
+      rw by-steps (fed-checked file book ceiling (record { reading = freshReading R; store = store }) events checked)
+      in
+      finish-checked file book (fed .last .reading) (fed .last .store) again
+      ∙ end-same R (fed .last .reading) (fed .last .store)
+      ∙ ap₂ (λ (r : Reading) (ls : List Level). endOf R r (innermost ls)) (one .reading) (sym (one .levels))
+
+-- ---- the theorem
+
+-- a reading by the calls that ends with a verdict: all events taken, and what finish then answers
+pub record ReadsTo (file book : List ℕ) (store : List Level) (ceiling : ℕ) (events : List ℕ) (R : Rule) (j : Judged) : Type 0 where
+  pub takesAll : feedCall file book ceiling (freshReading R) store events .ended ≡ given tt
+  pub verdict : finishCall file book (feedCall file book ceiling (freshReading R) store events .last .reading)
+      (feedCall file book ceiling (freshReading R) store events .last .store) ≡ given j
+
+-- full reading is the reading by the calls with a book of zeros
+pub full-by-calls : (file book : List ℕ) (store : List Level) (ceiling : ℕ) (events : List ℕ) {R : Rule} {j : Judged}
+    → checkRule file ≡ given R → R .states + 1 ≤ length book → Zeros book → ReadsTo file book store ceiling events R j
+    → (fullRun R (length store) ceiling events .ended ≡ given tt)
+    × (endOfRun R (fullRun R (length store) ceiling events .last) ≡ given j)
+full-by-calls file book store ceiling events {R} accepted long empty reads =
+    let same = zero-book book empty R (length store) ceiling (freshRun R) events in
+    let one = fed-is-run file book store ceiling events accepted long in
+    let end = finish-is-end file book store ceiling events accepted long in (
+      sym (ap (λ (w : Went Run). w .ended) same) ∙ (sym (one .ended) ∙ reads .takesAll),
+      sym (ap (λ (w : Went Run). endOfRun R (w .last)) same) ∙ (sym end ∙ reads .verdict),
+    )
+
+-- Demand 3. If full reading ends with a verdict under some level store and ceiling, then skipping with the book that the maker
+-- wrote, under the same store and ceiling, ends with that verdict and that state, and its looks are the events that full
+-- reading does not mark as passed over, never more than the events.
+pub record Demand3 (file lent : List ℕ) (store : List Level) (ceiling : ℕ) (events : List ℕ) (j : Judged) : Type 0 where
+  pub reads : ReadsTo file (madeBook file lent) store ceiling events (ruleOf file) j
+  pub looks : feedCall file (madeBook file lent) ceiling (freshReading (ruleOf file)) store events .last .reading .looks
+      ≡ notPassedOver (ruleOf file) (madeBook file lent) (length store) ceiling (freshRun (ruleOf file)) events
+  pub few : notPassedOver (ruleOf file) (madeBook file lent) (length store) ceiling (freshRun (ruleOf file)) events ≤ length events
+
+pub demand-3-calls : (file lent : List ℕ) (store : List Level) (ceiling : ℕ) (events : List ℕ) {count : ℕ} {j : Judged}
+    → makeBook file lent ≡ given count
+    → fullRun (ruleOf file) (length store) ceiling events .ended ≡ given tt
+    → endOfRun (ruleOf file) (fullRun (ruleOf file) (length store) ceiling events .last) ≡ given j
+    → Demand3 file lent store ceiling events j
+demand-3-calls file lent store ceiling events made all judged =
+    let book : List ℕ = madeBook file lent in
+    let m = made-says file lent made in
+    let long : ruleOf file .states + 1 ≤ length book = omega (arith, made-length file lent made, m .longEnough) in
+    let alike = demand-3 (accepted-is-rule file (m .accepted)) (made-own file lent made) (length store) ceiling events all judged in
+    let one = fed-is-run file book store ceiling events (m .accepted) long in
+    record {
+      reads = record {
+        takesAll = one .ended ∙ alike .takesAll;
+        verdict = finish-is-end file book store ceiling events (m .accepted) long ∙ alike .verdict;
+      };
+      looks = ap (λ (r : Reading). r .looks) (one .reading) ∙ alike .looks;
+      few = alike .few;
+    }
+
+-- the same, with full reading made by the calls with a book of zeros
+pub demand-3-by-calls : (file lent zeros : List ℕ) (store : List Level) (ceiling : ℕ) (events : List ℕ) {count : ℕ} {j : Judged}
+    → makeBook file lent ≡ given count → ruleOf file .states + 1 ≤ length zeros → Zeros zeros
+    → ReadsTo file zeros store ceiling events (ruleOf file) j → Demand3 file lent store ceiling events j
+demand-3-by-calls file lent zeros store ceiling events made long empty reads =
+    let full = full-by-calls file zeros store ceiling events (made-says file lent made .accepted) long empty reads in
+    demand-3-calls file lent store ceiling events made (full .0) (full .1)
