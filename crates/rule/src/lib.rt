@@ -1,4 +1,5 @@
 // The rule file: the four numbers of a rule, the numbers of the format, and the answers of the check and of the writer.
+mod check;
 pub mod tables;
 
 use meaning::Refusal;

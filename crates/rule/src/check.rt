@@ -1,0 +1,59 @@
+// The single checks of a rule file: one pass over its bytes, the tables lent as parts of it.
+use crate::Rule;
+use crate::tables::{product, HEADER};
+use meaning::Refusal;
+ghost use mathlib.Core.Path.{_≡_};
+ghost use mathlib.Core.Bool.{_&&_};
+ghost use Prim.Native.Nat.{_+_, _<_, _^_};
+ghost use lib.ListN.{length};
+ghost use Rattle.meaning.specs.Answers.{refused, _≤?_};
+ghost use Rattle.meaning.specs.RuleFile.{number2, number4, recordCheck, tableCheck};
+ghost use Rattle.rule.specs.Checks.{outcomeSays, inRange};
+
+// What one check answers: it passes, or a refusal.
+pub enum Outcome {
+    Passes,
+    Refused(Refusal),
+}
+
+// The bytes of the body of kind 1.
+pub const NUMBERS: usize = 5;
+
+// The classes are below this number.
+pub const CLASSES: u8 = 3;
+
+pub fn refuse(number: u8, place: usize) -> Outcome
+    ensures { λ r. ⌜ outcomeSays r ≡ refused number place ⌝ }
+{
+    Outcome::Refused(Refusal { number, place })
+}
+
+// The number that two bytes stand for.
+pub fn number2(file: &[u8], place: usize) -> u16
+    requires { ⌜ place + 1 < length (now file) ⌝ }
+    ensures { λ r. ⌜ r ≡ number2 (now (file .entry)) place ⌝ }
+{
+    file[place] as u16 + ((file[place + 1] as u16) << 8)
+}
+
+// The number that four bytes stand for.
+fn number4(file: &[u8], place: usize) -> u32
+    requires { ⌜ place + 3 < length (now file) ⌝ }
+    ensures { λ r. ⌜ r ≡ number4 (now (file .entry)) place ⌝ }
+{
+    number2(file, place) as u32 + ((number2(file, place + 2) as u32) << 16)
+}
+
+// A count is from 1 to its most.
+pub fn from_one_to(most: u16, x: u16) -> bool
+    ensures { λ r. ⌜ r ≡ (1 ≤? x && x ≤? most) ⌝ }
+{
+    1 <= x && x <= most
+}
+
+// A number is below a bound, or none where that is allowed.
+pub fn in_range(below: u8, none: bool, x: u8) -> bool
+    ensures { λ r. ⌜ r ≡ inRange below none x ⌝ }
+{
+    x < below || none && x == Rule::NONE
+}
