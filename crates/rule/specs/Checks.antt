@@ -1,11 +1,12 @@
 -- What the single checks of a rule answer: the listing of their outcome, one test for every number that stands in a table,
 -- and the rule of the writer's arguments.
-use Prim.Native.Nat.{ℕ, _+_}
+use Prim.Native.Nat.{ℕ, _+_, _*_}
 use mathlib.Core.Bool.{Bool, true, false}
 use mathlib.Core.List.{List, []}
-use Rattle.meaning.specs.Answers.{Answer, given, _andThen_}
+use lib.ListN.{length}
+use Rattle.meaning.specs.Answers.{Answer, given, _andThen_, refuse_at_when_otherwise_, _<?_}
 use Rattle.meaning.specs.RuleFile as format
-use Rattle.meaning.specs.RuleFile.{isState, isMove, numbersCheck, recordCheck, tableCheck, part, headerLength}
+use Rattle.meaning.specs.RuleFile.{isState, isMove, numbersCheck, recordCheck, tableCheck, part, headerLength, letterRecord, treeRecord, classRecord, fileLength, classCount}
 use Rattle.meaning.specs.Calls.{refusalSays}
 use Rattle.rule.specs.declared.Rule.{Rule}
 use Rattle.rule.specs.declared.check.Outcome.{Outcome}
@@ -45,3 +46,12 @@ unfoldable pub bodyCheck : List ℕ → ℕ → ℕ → ℕ → ℕ → Bool →
 bodyCheck file place kind size below noneToo =
     recordCheck file place kind size andThen
     tableCheck (inRange below noneToo) (place + headerLength) (part file (place + headerLength) size)
+
+-- the second, third and fourth record of a file with n states and k letters, and nothing after
+unfoldable pub tablesCheck : List ℕ → ℕ → ℕ → Answer Unit
+tablesCheck file n k =
+    bodyCheck file letterRecord 2 (n * k) n true andThen
+    bodyCheck file (treeRecord n k) 3 (n * n) n true andThen
+    bodyCheck file (classRecord n k) 4 n classCount false andThen
+    refuse 5 at fileLength n k when fileLength n k <? length file otherwise
+    given tt

@@ -8,7 +8,7 @@ ghost use Prim.Native.Nat.{_+_, _<_, _^_};
 ghost use lib.ListN.{length};
 ghost use Rattle.meaning.specs.Answers.{refused, _≤?_};
 ghost use Rattle.meaning.specs.RuleFile.{number2, number4, recordCheck, tableCheck};
-ghost use Rattle.rule.specs.Checks.{outcomeSays, inRange};
+ghost use Rattle.rule.specs.Checks.{outcomeSays, inRange, bodyCheck, tablesCheck};
 
 // What one check answers: it passes, or a refusal.
 pub enum Outcome {
@@ -56,4 +56,40 @@ pub fn in_range(below: u8, none: bool, x: u8) -> bool
     ensures { λ r. ⌜ r ≡ inRange below none x ⌝ }
 {
     x < below || none && x == Rule::NONE
+}
+
+// One record that stands at a place, of a kind and with a body of so many bytes.
+pub fn record_check(file: &[u8], place: usize, kind: u16, size: usize) -> Outcome
+    requires { ⌜ place + size < 2 ^ 60 ⌝ }
+    ensures { λ r. ⌜ outcomeSays r ≡ recordCheck (now (file .entry)) place kind size ⌝ }
+{
+    let count = file.len();
+    if count < place + HEADER {
+        return refuse(1, count);
+    }
+    if number2(file, place + 4) != kind {
+        return refuse(2, place + 4);
+    }
+    if number4(file, place) as usize != size {
+        return refuse(3, place);
+    }
+    if count < place + HEADER + size {
+        return refuse(1, count);
+    }
+    Outcome::Passes
+}
+
+// The numbers of a table that stands at a place, the first bad one first.
+pub fn table_check(body: &[u8], place: usize, below: u8, none: bool) -> Outcome
+    requires { ⌜ place < 2 ^ 60 ⌝ }
+    ensures { λ r. ⌜ outcomeSays r ≡ tableCheck (inRange below none) place (now (body .entry)) ⌝ }
+{
+    let mut i = 0;
+    while i < body.len() {
+        if !in_range(below, none, body[i]) {
+            return refuse(4, place + i);
+        }
+        i += 1;
+    }
+    Outcome::Passes
 }
