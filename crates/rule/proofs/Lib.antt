@@ -1,3 +1,4 @@
 pub mod Looks
 pub mod Said
 pub mod Steps
+pub mod Outcomes

@@ -19,6 +19,9 @@ pub enum Outcome {
 // The bytes of the body of kind 1.
 pub const NUMBERS: usize = 5;
 
+// The place of the second record.
+pub const LETTER_RECORD: usize = 11;
+
 // The classes are below this number.
 pub const CLASSES: u8 = 3;
 
@@ -90,6 +93,55 @@ pub fn table_check(body: &[u8], place: usize, below: u8, none: bool) -> Outcome
             return refuse(4, place + i);
         }
         i += 1;
+    }
+    Outcome::Passes
+}
+
+// One record that stands at a place, and then the numbers in its body.
+fn body_check(
+    file: &[u8],
+    place: usize,
+    kind: u16,
+    size: usize,
+    below: u8,
+    none: bool,
+) -> Outcome
+    requires { ⌜ place + size < 2 ^ 59 ⌝ }
+    ensures { λ r. ⌜ outcomeSays r ≡ bodyCheck (now (file .entry)) place kind size below none ⌝ }
+{
+    let whole = record_check(file, place, kind, size);
+    if let Outcome::Refused(_) = whole {
+        return whole;
+    }
+    let start = place + HEADER;
+    let end = start + size;
+    table_check(&file[start..end], start, below, none)
+}
+
+// The three tables of a file whose numbers are in range, and nothing after them.
+pub fn tables_check(file: &[u8], rule: Rule) -> Outcome
+    ensures { λ r. ⌜ outcomeSays r ≡ tablesCheck (now (file .entry)) (rule .states) (rule .letters) ⌝ }
+{
+    let letter_moves = product(rule.states as u16, rule.letters);
+    let tree_moves = product(rule.states as u16, rule.states as u16);
+    let classes = rule.states as usize;
+    let tree_record = LETTER_RECORD + HEADER + letter_moves;
+    let class_record = tree_record + HEADER + tree_moves;
+    let count = class_record + HEADER + classes;
+    let letters = body_check(file, LETTER_RECORD, 2, letter_moves, rule.states, true);
+    if let Outcome::Refused(_) = letters {
+        return letters;
+    }
+    let trees = body_check(file, tree_record, 3, tree_moves, rule.states, true);
+    if let Outcome::Refused(_) = trees {
+        return trees;
+    }
+    let ends = body_check(file, class_record, 4, classes, CLASSES, false);
+    if let Outcome::Refused(_) = ends {
+        return ends;
+    }
+    if count < file.len() {
+        return refuse(5, count);
     }
     Outcome::Passes
 }
