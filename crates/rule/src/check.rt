@@ -1,6 +1,7 @@
 // The single checks of a rule file: one pass over its bytes, the tables lent as parts of it.
 use crate::Rule;
-use crate::tables::{product, HEADER};
+use crate::layout::{Layout, LETTER_RECORD};
+use crate::tables::HEADER;
 use meaning::Refusal;
 ghost use mathlib.Core.Path.{_≡_};
 ghost use mathlib.Core.Bool.{_&&_};
@@ -15,12 +16,6 @@ pub enum Outcome {
     Passes,
     Refused(Refusal),
 }
-
-// The bytes of the body of kind 1.
-pub const NUMBERS: usize = 5;
-
-// The place of the second record.
-pub const LETTER_RECORD: usize = 11;
 
 // The classes are below this number.
 pub const CLASSES: u8 = 3;
@@ -122,26 +117,21 @@ fn body_check(
 pub fn tables_check(file: &[u8], rule: Rule) -> Outcome
     ensures { λ r. ⌜ outcomeSays r ≡ tablesCheck (now (file .entry)) (rule .states) (rule .letters) ⌝ }
 {
-    let letter_moves = product(rule.states as u16, rule.letters);
-    let tree_moves = product(rule.states as u16, rule.states as u16);
-    let classes = rule.states as usize;
-    let tree_record = LETTER_RECORD + HEADER + letter_moves;
-    let class_record = tree_record + HEADER + tree_moves;
-    let count = class_record + HEADER + classes;
-    let letters = body_check(file, LETTER_RECORD, 2, letter_moves, rule.states, true);
+    let at = Layout::of(rule.states, rule.letters);
+    let letters = body_check(file, LETTER_RECORD, 2, at.letter_moves, rule.states, true);
     if let Outcome::Refused(_) = letters {
         return letters;
     }
-    let trees = body_check(file, tree_record, 3, tree_moves, rule.states, true);
+    let trees = body_check(file, at.tree_record, 3, at.tree_moves, rule.states, true);
     if let Outcome::Refused(_) = trees {
         return trees;
     }
-    let ends = body_check(file, class_record, 4, classes, CLASSES, false);
-    if let Outcome::Refused(_) = ends {
-        return ends;
+    let classes = body_check(file, at.class_record, 4, rule.states as usize, CLASSES, false);
+    if let Outcome::Refused(_) = classes {
+        return classes;
     }
-    if count < file.len() {
-        return refuse(5, count);
+    if at.count < file.len() {
+        return refuse(5, at.count);
     }
     Outcome::Passes
 }
