@@ -2,3 +2,4 @@ pub mod Looks
 pub mod Said
 pub mod Steps
 pub mod Outcomes
+pub mod Stages

@@ -1,6 +1,7 @@
 // The single checks of a rule file: one pass over its bytes, the tables lent as parts of it.
 use crate::Rule;
-use crate::layout::{Layout, LETTER_RECORD};
+use crate::layout::LETTER_RECORD;
+use crate::layout::Layout;
 use crate::tables::HEADER;
 use meaning::Refusal;
 ghost use mathlib.Core.Path.{_≡_};
@@ -93,14 +94,7 @@ pub fn table_check(body: &[u8], place: usize, below: u8, none: bool) -> Outcome
 }
 
 // One record that stands at a place, and then the numbers in its body.
-fn body_check(
-    file: &[u8],
-    place: usize,
-    kind: u16,
-    size: usize,
-    below: u8,
-    none: bool,
-) -> Outcome
+fn body_check(file: &[u8], place: usize, kind: u16, size: usize, below: u8, none: bool) -> Outcome
     requires { ⌜ place + size < 2 ^ 59 ⌝ }
     ensures { λ r. ⌜ outcomeSays r ≡ bodyCheck (now (file .entry)) place kind size below none ⌝ }
 {
@@ -126,7 +120,14 @@ pub fn tables_check(file: &[u8], rule: Rule) -> Outcome
     if let Outcome::Refused(_) = trees {
         return trees;
     }
-    let classes = body_check(file, at.class_record, 4, rule.states as usize, CLASSES, false);
+    let classes = body_check(
+        file,
+        at.class_record,
+        4,
+        rule.states as usize,
+        CLASSES,
+        false,
+    );
     if let Outcome::Refused(_) = classes {
         return classes;
     }

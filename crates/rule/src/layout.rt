@@ -1,5 +1,6 @@
 // Where the records of a rule file stand and how long their bodies are: counted once, for the check and for the writer.
-use crate::tables::{product, HEADER};
+use crate::tables::HEADER;
+use crate::tables::product;
 ghost use Rattle.rule.specs.Places.{IsLayout};
 
 // The bytes of the body of kind 1.

@@ -15,7 +15,7 @@ refuse-requires : tie.Need-refuse-requires
 refuse-requires c κs = search needs
 
 returns : tie.Need-returns
-returns c = 
+returns c =
     let a = c .before .before .before .args in
     c .refuse .ensures ∙ sym (record-short (now (a .file)) (a .place) (a .kind) (a .size) (c .before .if1 .taken))
 
@@ -32,7 +32,7 @@ refuse-requires-2 : tie.Need-refuse-requires-2
 refuse-requires-2 c κs = search needs
 
 returns-2 : tie.Need-returns-2
-returns-2 c = 
+returns-2 c =
     let a = c .before .before .before .before .before .args in
     c .refuse2 .ensures
     ∙ sym (record-kind (now (a .file)) (a .place) (a .kind) (a .size) (c .before .before .before .if1 .left)
@@ -48,7 +48,7 @@ refuse-requires-3 : tie.Need-refuse-requires-3
 refuse-requires-3 c κs = search needs
 
 returns-3 : tie.Need-returns-3
-returns-3 c = 
+returns-3 c =
     let a = c .before .before .before .before .before .before .before .args in
     c .refuse3 .ensures
     ∙ sym (record-length (now (a .file)) (a .place) (a .kind) (a .size) (c .before .before .before .before .before .if1 .left)
@@ -65,7 +65,7 @@ refuse-requires-4 : tie.Need-refuse-requires-4
 refuse-requires-4 c κs = search needs
 
 returns-4 : tie.Need-returns-4
-returns-4 c = 
+returns-4 c =
     let a = c .before .before .before .before .before .before .before .before .args in
     c .refuse4 .ensures
     ∙ sym (record-cut (now (a .file)) (a .place) (a .kind) (a .size) (c .before .before .before .before .before .before .if1 .left)
@@ -75,7 +75,7 @@ returns-4 c =
 
 returns-5 : tie.Need-returns-5
 unfolding outcomeSays
-returns-5 c = 
+returns-5 c =
     let a = c .before .before .before .before .before .before .before .args in
     sym (record-passes (now (a .file)) (a .place) (a .kind) (a .size) (c .before .before .before .before .before .if1 .left)
     (sym (c .before .before .before .before .number2 .ensures) ∙ c .before .before .before .if2 .left)
