@@ -45,6 +45,17 @@ eventsPlace input = placeFrom (checkRule input)
     placeFrom (given R) = refused 1 (length input)
     placeFrom (refused number place) = if number =? 5 then given place else refused number place
 
+-- where the record of events starts, and how many bytes its body has
+pub record EventsAt : Type 0 where
+  pub place : ℕ
+  pub size : ℕ
+
+unfoldable pub frontCheck : List ℕ → Answer EventsAt
+frontCheck input =
+    eventsPlace input giving λ place.
+    eventsHeader input place giving λ size.
+    given (record { place = place; size = size })
+
 -- the rule's file and the events of an input, or the refusal of a bad record
 pub record Input : Type 0 where
   pub file : List ℕ
@@ -52,10 +63,9 @@ pub record Input : Type 0 where
 
 unfoldable pub inputCheck : List ℕ → Answer Input
 inputCheck input =
-    eventsPlace input giving λ place.
-    eventsHeader input place giving λ size.
-    eventsBody input (place + headerLength) size giving λ events.
-    given (record { file = take place input; events = events })
+    frontCheck input giving λ found.
+    eventsBody input (found .place + headerLength) (found .size) giving λ events.
+    given (record { file = take (found .place) input; events = events })
 
 -- ---- the two readings
 
