@@ -82,18 +82,18 @@ here-reach (here reach) = reach
 -- ---- settled levels
 
 -- Skipping asks its depth and the innermost record, and what is passed over is said of the levels: the same.
-held-is : (book : List ℕ) (r : Reading) (σ : List Level) → r .depth ≡ length σ
+pub held-is : (book : List ℕ) (r : Reading) (σ : List Level) → r .depth ≡ length σ
     → held book r (innermost σ) ≡ levelHeld book (r .state) σ
 unfolding held levelHeld innermost
 held-is book r [] depth = rw (le-ltb 0 (r .depth) (omega arith))
 held-is book r (l ∷ σ) depth = rw (lt-ltb 0 (r .depth) (omega arith))
 
-settled-is : (book : List ℕ) (r : Reading) (σ : List Level) → r .depth ≡ length σ
+pub settled-is : (book : List ℕ) (r : Reading) (σ : List Level) → r .depth ≡ length σ
     → settled book r (innermost σ) ≡ levelSettled book (r .state) σ
 unfolding settled levelSettled
 settled-is book r σ depth = rw (held-is book r σ depth)
 
-outside-unsettled : {R : Rule} {book : List ℕ} {σ : List Level} → Outside R book σ → outsideSettled book σ ≡ false
+pub outside-unsettled : {R : Rule} {book : List ℕ} {σ : List Level} → Outside R book σ → outsideSettled book σ ≡ false
 unfolding outsideSettled
 outside-unsettled atTop = refl
 outside-unsettled (within low unsettled rest) = rw (unsettled, outside-unsettled rest)

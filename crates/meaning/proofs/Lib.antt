@@ -7,3 +7,4 @@ pub mod Reaching
 pub mod Following
 pub mod Runs
 pub mod Demand3
+pub mod Exchange
