@@ -1,8 +1,8 @@
 -- The exchange of demand 3, for any rule, any book, any room and ceiling: a well-nested run that skipping takes on a settled
--- level can be exchanged for any other, since there it changes nothing but the events taken, and skipping looks at places
+-- level can be exchanged for any other, since there it changes nothing but the events taken, and skipping asks for places
 -- only to report them.
-use mathlib.Core.Path.{_≡_, refl, sym, ap, _∙_, subst}
-use mathlib.Core.Bool.{Bool, true, false, _&&_}
+use mathlib.Core.Path.{_≡_, refl, sym, ap, _∙_}
+use mathlib.Core.Bool.{Bool, true, false}
 use mathlib.Core.List.{List, [], _∷_, _++_}
 use Prim.Native.Nat.{ℕ, zero, suc, _+_, _-_, _<_, _≤_}
 use native.Mathlib.Omega.{arith}
@@ -10,16 +10,18 @@ use lib.ListN.{length, length-append}
 use borrow.Author.Tests.{lt-ltb, ltb-true, leb-false, lt-leb, eqb-true}
 use Rattle.meaning.specs.declared.Reading.{Reading}
 use Rattle.meaning.specs.declared.Level.{Level}
-use Rattle.meaning.specs.Answers.{Answer, given, refused, refuse_at_when_otherwise_, _giving_, _≤?_, _<?_, _=?_, if_then_else_}
+use Rattle.meaning.specs.Answers.{Answer, given, refused, _≤?_, _<?_}
 use Rattle.meaning.specs.RuleFile.{Rule}
-use Rattle.meaning.specs.FullReading.{Event, opens, closes, letter, eventOf, Turn, stays, stores, ends, looked, opened, letterTable, startTable, treeTable, fullTurn, knownEvent, Run, innermost, outer, blank, runAfter, freshReading, Went, goOn, feedBy, mostEvents}
+use Rattle.meaning.specs.FullReading.{Event, opens, closes, letter, eventOf, mostEvents, letterTable, startTable, treeTable}
+use Rattle.meaning.specs.FullReading.{Turn, stays, looked, opened, fullTurn, knownEvent}
+use Rattle.meaning.specs.FullReading.{Run, innermost, outer, runAfter, freshReading, Went, goOn, feedBy}
 use Rattle.meaning.specs.Hedges.{nestedOn, nestedFrom, knownEvents, wellNested}
 use Rattle.meaning.specs.Skipping.{held, settled, passed, endsLevel, settledTurn, skipTurn, skipEvent, skipStep}
 use Rattle.meaning.specs.Calls.{Judged, endOf}
 use Rattle.meaning.proofs.Answered.{if-true, refuse-passes, refuse-given, giving-passes, and-true}
 use Rattle.meaning.proofs.Truths.{true-is-not-false}
-use Rattle.meaning.proofs.Following.{Follows, notAsked, bothGive, refuse-each, if-each, follows-so, giving-each, look-each, feed-each}
-use Rattle.meaning.proofs.Runs.{freshRun, skipRun, endOfRun}
+use Rattle.meaning.proofs.Following.{Follows, bothGive, refuse-each, if-each, look-each, giving-each, follows-so, feed-each}
+use Rattle.meaning.proofs.Runs.{freshRun, skipFrom, skipRun, endOfRun}
 
 -- ---- laws of feeding
 
@@ -101,7 +103,19 @@ unfolding innermost
 same-innermost noLevel = refl
 same-innermost (andLevel {l} {l′} same rest) = λ i. record { above = sym same i; opened = l′ .opened }
 
--- after an event: the same but for places, and one more event taken
+same-reading : {m m′ : Run} → SameButPlaces m m′ → m′ .reading ≡ atPlace (m′ .reading .taken) (m .reading)
+same-reading {m} {m′} same =
+    λ i. record {
+      state = sym (same .state) i;
+      depth = sym (same .depth) i;
+      skip = sym (same .skip) i;
+      taken = m′ .reading .taken;
+      looks = sym (same .looks) i;
+    }
+
+-- ---- one event, by the text of skipping
+
+-- one event after runs that have taken t and t′: the same but for places, and one more event taken
 record Further (t t′ : ℕ) (m m′ : Run) : Type 0 where
   same : SameButPlaces m m′
   taken : m .reading .taken ≡ t + 1
@@ -117,8 +131,6 @@ further t t′ aboves =
       taken′ = refl;
     }
 
--- ---- one event, by the text of skipping
-
 module _ (R : Rule) (book : List ℕ) (room ceiling : ℕ) (r : Reading) (top : Level) (t o : ℕ)
     (ls ls′ : List Level) (aboves : SameAboves ls ls′) where
   abbrev Both : Turn → Turn → Type 0
@@ -128,15 +140,15 @@ module _ (R : Rule) (book : List ℕ) (room ceiling : ℕ) (r : Reading) (top : 
       → Follows Both (fullTurn R room ceiling r top v) (fullTurn R room ceiling (atPlace t r) (openedAt o top) v)
   unfolding fullTurn looked opened runAfter
   full-same (letter a) =
-      refuse-each 9 _ 9 _ _ _ (λ free. free)
+      refuse-each 9 _ _ _ _ (λ free. free)
       λ free. look-each letterTable _ _ _ _ refl λ q leads. bothGive (further (r .taken) t aboves)
   full-same opens =
-      refuse-each 8 _ 8 _ _ _ (λ fits. fits)
-      λ fits. refuse-each 9 _ 9 _ _ _ (λ free. free)
+      refuse-each 8 _ _ _ _ (λ fits. fits)
+      λ fits. refuse-each 9 _ _ _ _ (λ free. free)
       λ free. look-each startTable _ _ _ _ refl λ q leads. bothGive (further (r .taken) t (andLevel refl aboves))
   full-same closes =
-      refuse-each 7 _ 7 _ _ _ (λ deep. deep)
-      λ deep. refuse-each 9 _ 9 _ _ _ (λ free. free)
+      refuse-each 7 _ _ _ _ (λ deep. deep)
+      λ deep. refuse-each 9 _ _ _ _ (λ free. free)
       λ free. look-each treeTable _ _ _ _ refl λ q leads. bothGive (further (r .taken) t (same-outer aboves))
 
   settled-same : (v : Event)
@@ -152,30 +164,13 @@ module _ (R : Rule) (book : List ℕ) (room ceiling : ℕ) (r : Reading) (top : 
       → Follows (λ turn turn′. (r .taken < mostEvents) × Both turn turn′) (skipEvent R book room ceiling r top e)
       (skipEvent R book room ceiling (atPlace t r) (openedAt o top) e)
   unfolding skipEvent knownEvent skipTurn settled held
-  event-same e within =
-      refuse-each 16 _ 16 _ _ _ within
-      λ free. refuse-each 10 _ 10 _ _ _ (λ known. known)
+  event-same e limit =
+      refuse-each 16 _ _ _ _ limit
+      λ free. refuse-each 10 _ _ _ _ (λ known. known)
       λ known. follows-so (if-each _ (λ settles. settled-same (eventOf e)) (λ moves. full-same (eventOf e)))
       (λ turn turn′ both. (leb-false mostEvents (r .taken) free, both))
 
--- where one run takes an event, so does a run that is the same but for places, within the event limit
-module _ (R : Rule) (book : List ℕ) (room ceiling : ℕ) where
-  step-same : (m m′ : Run) (e : ℕ) → SameButPlaces m m′
-      → ((mostEvents ≤? m .reading .taken) ≡ false → (mostEvents ≤? m′ .reading .taken) ≡ false)
-      → Follows (λ n n′. (m .reading .taken < mostEvents) × Further (m .reading .taken) (m′ .reading .taken) n n′)
-      (skipStep R book room ceiling m e) (skipStep R book room ceiling m′ e)
-  unfolding skipStep
-  step-same m m′ e same within =
-      let reads : m′ .reading ≡ atPlace (m′ .reading .taken) (m .reading) =
-      λ i. record { state = sym (same .state) i; depth = sym (same .depth) i; skip = sym (same .skip) i; taken = m′ .reading .taken; looks = sym (same .looks) i } in
-      giving-each
-      (rw (reads, same-innermost (same .aboves)) (event-same R book room ceiling (m .reading) (innermost (m .levels)) (m′ .reading .taken) _ (m .levels) (m′ .levels) (same .aboves) e within))
-      (λ turn turn′ further. bothGive further)
-
--- ---- the events taken
-
-same-itself : (m : Run) → SameButPlaces m m
-same-itself m = record { state = refl; depth = refl; skip = refl; looks = refl; aboves = same-aboves (m .levels) }
+-- ---- events taken
 
 -- in all so many events taken, with those to come; once one is taken, within the event limit
 record Limited (n total : ℕ) (es : List ℕ) (m m′ : Run) : Type 0 where
@@ -184,11 +179,32 @@ record Limited (n total : ℕ) (es : List ℕ) (m m′ : Run) : Type 0 where
   taken : m .reading .taken + length es ≡ total
   limit : length es < n → m .reading .taken ≤ mostEvents
 
+-- the same but for places, and within the event limit with the events to come
+record Ready (es : List ℕ) (m m′ : Run) : Type 0 where
+  same : SameButPlaces m m′
+  limit : m′ .reading .taken + length es ≤ mostEvents
+
+same-itself : (m : Run) → SameButPlaces m m
+same-itself m = record { state = refl; depth = refl; skip = refl; looks = refl; aboves = same-aboves (m .levels) }
+
 module _ (R : Rule) (book : List ℕ) (room ceiling : ℕ) where
+  -- where a run takes an event, so does one that is the same but for places, within the event limit
+  step-same : (m m′ : Run) (e : ℕ) → SameButPlaces m m′
+      → ((mostEvents ≤? m .reading .taken) ≡ false → (mostEvents ≤? m′ .reading .taken) ≡ false)
+      → Follows (λ n n′. (m .reading .taken < mostEvents) × Further (m .reading .taken) (m′ .reading .taken) n n′)
+      (skipStep R book room ceiling m e) (skipStep R book room ceiling m′ e)
+  unfolding skipStep
+  step-same m m′ e same limit =
+      giving-each
+      (rw (same-reading same, same-innermost (same .aboves))
+      (event-same R book room ceiling (m .reading) (innermost (m .levels)) (m′ .reading .taken) _ (m .levels) (m′ .levels)
+      (same .aboves) e limit))
+      (λ turn turn′ both. bothGive both)
+
   limited : (n total e : ℕ) (es : List ℕ) (m m′ : Run) → Limited n total (e ∷ es) m m′
       → Follows (Limited n total es) (skipStep R book room ceiling m e) (skipStep R book room ceiling m′ e)
   limited n total e es m m′ before =
-      follows-so (step-same R book room ceiling m m′ e (before .same) (λ free. rw (before .together) at free))
+      follows-so (step-same m m′ e (before .same) (λ free. rw (before .together) at free))
       λ a b after.
       record {
         same = after .1 .same;
@@ -198,32 +214,36 @@ module _ (R : Rule) (book : List ℕ) (room ceiling : ℕ) where
       }
 
   -- where all are taken, each counts one, and a run that is not empty ends within the event limit
-  pub all-counted : (m : Run) (es : List ℕ) → feedBy (skipStep R book room ceiling) m es .ended ≡ given tt
-      → (feedBy (skipStep R book room ceiling) m es .last .reading .taken ≡ m .reading .taken + length es)
+  pub all-counted : (m : Run) (es : List ℕ) → skipFrom R book room ceiling m es .ended ≡ given tt
+      → (skipFrom R book room ceiling m es .last .reading .taken ≡ m .reading .taken + length es)
       × (0 < length es → m .reading .taken + length es ≤ mostEvents)
   all-counted m es all =
       let step = skipStep R book room ceiling in
       let n = length es in
+      let total = m .reading .taken + n in
       let counted =
-      feed-each step step (Limited n (m .reading .taken + n)) (limited n (m .reading .taken + n)) es m m
+      feed-each step step (Limited n total) (limited n total) es m m
       (record { same = same-itself m; together = refl; taken = refl; limit = λ more. absurd (omega arith) }) all in
       (omega (arith, counted .1 .taken), λ some. omega (arith, counted .1 .taken, counted .1 .limit some))
 
--- ---- a well-nested run on a settled level
+  ready : (e : ℕ) (es : List ℕ) (m m′ : Run) → Ready (e ∷ es) m m′
+      → Follows (Ready es) (skipStep R book room ceiling m e) (skipStep R book room ceiling m′ e)
+  ready e es m m′ before =
+      follows-so (step-same m m′ e (before .same) (λ free. lt-leb mostEvents (m′ .reading .taken) (omega arith)))
+      λ a b after. record { same = after .1 .same; limit = omega arith }
 
--- a run with so many more events taken
-abbrev pub later : ℕ → Run → Run
-later n m = record { reading = atPlace (m .reading .taken + n) (m .reading); levels = m .levels }
+-- ---- a well-nested run on a settled level
 
 module _ (R : Rule) (book : List ℕ) (room ceiling : ℕ) (r : Reading) (ls : List Level)
     (settles : settled book r (innermost ls) ≡ true) where
-  -- on that level with d more trees open, after so many events
-  abbrev onLevel : ℕ → ℕ → Reading
-  onLevel d t = record { state = r .state; depth = r .depth; skip = r .skip + d; taken = t; looks = r .looks }
+  -- on that level with d more trees open, after t events
+  abbrev onLevel : ℕ → ℕ → Run
+  onLevel d t =
+      record { reading = record { state = r .state; depth = r .depth; skip = r .skip + d; taken = t; looks = r .looks }; levels = ls }
 
   nested-turn : (t d : ℕ) (v : Event) (rest : ℕ → Bool) → nestedOn d v rest ≡ true
       → (d′ : ℕ) × (rest d′ ≡ true)
-      × (settledTurn R book room ceiling (onLevel d t) (innermost ls) v ≡ given (stays (onLevel d′ (t + 1))))
+      × (settledTurn R book room ceiling (onLevel d t .reading) (innermost ls) v ≡ given (stays (onLevel d′ (t + 1) .reading)))
   unfolding nestedOn settledTurn passed
   nested-turn t d (letter a) rest nested = (d, nested, refl)
   nested-turn t d opens rest nested =
@@ -236,8 +256,7 @@ module _ (R : Rule) (book : List ℕ) (room ceiling : ℕ) (r : Reading) (ls : L
 
   -- one event of a well-nested run, with d of its trees open: on the same level, one event more
   nested-step : (t d e : ℕ) (rest : ℕ → Bool) → t < mostEvents → e < R .letters + 2 → nestedOn d (eventOf e) rest ≡ true
-      → (d′ : ℕ) × (rest d′ ≡ true)
-      × (skipStep R book room ceiling (record { reading = onLevel d t; levels = ls }) e ≡ given (record { reading = onLevel d′ (t + 1); levels = ls }))
+      → (d′ : ℕ) × (rest d′ ≡ true) × (skipStep R book room ceiling (onLevel d t) e ≡ given (onLevel d′ (t + 1)))
   unfolding skipStep skipEvent knownEvent skipTurn settled held runAfter
   nested-step t d e rest free known nested =
       let turn = nested-turn t d (eventOf e) rest nested in (
@@ -252,8 +271,7 @@ module _ (R : Rule) (book : List ℕ) (room ceiling : ℕ) (r : Reading) (ls : L
 
   nested-run : (t d : ℕ) (es : List ℕ) → nestedFrom d es ≡ true → knownEvents (R .letters) es ≡ true
       → (0 < length es → t + length es ≤ mostEvents)
-      → feedBy (skipStep R book room ceiling) (record { reading = onLevel d t; levels = ls }) es
-      ≡ record { last = record { reading = onLevel 0 (t + length es); levels = ls }; ended = given tt }
+      → skipFrom R book room ceiling (onLevel d t) es ≡ record { last = onLevel 0 (t + length es); ended = given tt }
   unfolding nestedFrom knownEvents
   nested-run t d [] nested known limit =
       let none : d ≡ 0 = eqb-true d 0 nested in
@@ -267,29 +285,23 @@ module _ (R : Rule) (book : List ℕ) (room ceiling : ℕ) (r : Reading) (ls : L
       feed-taken (skipStep R book room ceiling) es (next .2)
       ∙ rw sum (nested-run (t + 1) (next .0) es (next .1) (each .1) (λ more. omega arith))
 
-module _ (R : Rule) (book : List ℕ) (room ceiling : ℕ) where
-  -- it changes nothing but the events taken
-  pub nested-changes-nothing : (m : Run) (es : List ℕ) → settled book (m .reading) (innermost (m .levels)) ≡ true
-      → wellNested (R .letters) es ≡ true → (0 < length es → m .reading .taken + length es ≤ mostEvents)
-      → feedBy (skipStep R book room ceiling) m es ≡ record { last = later (length es) m; ended = given tt }
-  unfolding wellNested
-  nested-changes-nothing m es settles nested limit =
-      let each = and-true (nestedFrom 0 es) (knownEvents (R .letters) es) nested in
-      let flat : m .reading .skip + 0 ≡ m .reading .skip = omega arith in
-      rw flat at (nested-run R book room ceiling (m .reading) (m .levels) settles (m .reading .taken) 0 es (each .0) (each .1) limit)
+-- a run with so many more events taken
+abbrev pub later : ℕ → Run → Run
+later n m = record { reading = atPlace (m .reading .taken + n) (m .reading); levels = m .levels }
 
-  -- ---- the exchange
+-- It changes nothing but the events taken.
+pub nested-changes-nothing : (R : Rule) (book : List ℕ) (room ceiling : ℕ) (m : Run) (es : List ℕ)
+    → settled book (m .reading) (innermost (m .levels)) ≡ true → wellNested (R .letters) es ≡ true
+    → (0 < length es → m .reading .taken + length es ≤ mostEvents)
+    → skipFrom R book room ceiling m es ≡ record { last = later (length es) m; ended = given tt }
+unfolding wellNested
+nested-changes-nothing R book room ceiling m es settles nested limit =
+    let each = and-true (nestedFrom 0 es) (knownEvents (R .letters) es) nested in
+    let flat : m .reading .skip + 0 ≡ m .reading .skip = omega arith in
+    rw flat at
+    (nested-run R book room ceiling (m .reading) (m .levels) settles (m .reading .taken) 0 es (each .0) (each .1) limit)
 
-  -- the same but for places, with room for the events to come
-  record Ready (es : List ℕ) (m m′ : Run) : Type 0 where
-    same : SameButPlaces m m′
-    limit : m′ .reading .taken + length es ≤ mostEvents
-
-  ready : (e : ℕ) (es : List ℕ) (m m′ : Run) → Ready (e ∷ es) m m′
-      → Follows (Ready es) (skipStep R book room ceiling m e) (skipStep R book room ceiling m′ e)
-  ready e es m m′ before =
-      follows-so (step-same R book room ceiling m m′ e (before .same) (λ free. lt-leb mostEvents (m′ .reading .taken) (omega arith)))
-      λ a b after. record { same = after .1 .same; limit = omega arith }
+-- ---- the exchange
 
 -- the second run of events is taken whole too, and leads to the same but for places
 pub record Exchanged (w w′ : Went Run) : Type 0 where
@@ -297,49 +309,49 @@ pub record Exchanged (w w′ : Went Run) : Type 0 where
   pub same : SameButPlaces (w .last) (w′ .last)
 
 module _ (R : Rule) (book : List ℕ) (room ceiling : ℕ) where
-  -- what follows two runs that changed nothing but the events taken
-  after-both : (m : Run) (n n′ : ℕ) (zs : List ℕ) → m .reading .taken + n′ + length zs ≤ mostEvents
-      → feedBy (skipStep R book room ceiling) (later n m) zs .ended ≡ given tt
-      → Exchanged (feedBy (skipStep R book room ceiling) (later n m) zs) (feedBy (skipStep R book room ceiling) (later n′ m) zs)
-  after-both m n n′ zs limit all =
+  -- what comes after the two parts
+  exchange-after : (m : Run) (n n′ : ℕ) (zs : List ℕ) → m .reading .taken + n′ + length zs ≤ mostEvents
+      → skipFrom R book room ceiling (later n m) zs .ended ≡ given tt
+      → Exchanged (skipFrom R book room ceiling (later n m) zs) (skipFrom R book room ceiling (later n′ m) zs)
+  exchange-after m n n′ zs limit all =
       let step = skipStep R book room ceiling in
+      let same : SameButPlaces (later n m) (later n′ m) =
+      record { state = refl; depth = refl; skip = refl; looks = refl; aboves = same-aboves (m .levels) } in
       let both =
-      feed-each step step (Ready R book room ceiling) (ready R book room ceiling) zs (later n m) (later n′ m)
-      (record {
-        same = record { state = refl; depth = refl; skip = refl; looks = refl; aboves = same-aboves (m .levels) };
-        limit = limit;
-      }) all in
+      feed-each step step Ready (ready R book room ceiling) zs (later n m) (later n′ m)
+      (record { same = same; limit = limit }) all in
       record { takesAll = both .0; same = both .1 .same }
 
-  -- the same from the settled level on
-  from-level : (m : Run) (ys ys′ zs : List ℕ) → settled book (m .reading) (innermost (m .levels)) ≡ true
+  -- from the settled level on
+  exchange-on : (m : Run) (ys ys′ zs : List ℕ) → settled book (m .reading) (innermost (m .levels)) ≡ true
       → wellNested (R .letters) ys ≡ true → wellNested (R .letters) ys′ ≡ true
       → m .reading .taken + length (ys′ ++ zs) ≤ mostEvents
-      → feedBy (skipStep R book room ceiling) m (ys ++ zs) .ended ≡ given tt
-      → Exchanged (feedBy (skipStep R book room ceiling) m (ys ++ zs)) (feedBy (skipStep R book room ceiling) m (ys′ ++ zs))
-  from-level m ys ys′ zs settles nested nested′ limit all =
+      → skipFrom R book room ceiling m (ys ++ zs) .ended ≡ given tt
+      → Exchanged (skipFrom R book room ceiling m (ys ++ zs)) (skipFrom R book room ceiling m (ys′ ++ zs))
+  exchange-on m ys ys′ zs settles nested nested′ limit all =
       let step = skipStep R book room ceiling in
       let parts = feed-split step m ys zs all in
       let total = length-append ys′ zs in
-      let first = nested-changes-nothing R book room ceiling m ys settles nested (all-counted R book room ceiling m ys (parts .0) .1) in
+      let fits = all-counted R book room ceiling m ys (parts .0) .1 in
+      let first = nested-changes-nothing R book room ceiling m ys settles nested fits in
       let second = nested-changes-nothing R book room ceiling m ys′ settles nested′ (λ some. omega arith) in
       rw (feed-append step m ys zs (parts .0), feed-append step m ys′ zs (ap (λ w. w .ended) second), first, second)
-      (after-both m (length ys) (length ys′) zs (omega arith) (rw first at (parts .1)))
+      (exchange-after m (length ys) (length ys′) zs (omega arith) (rw first at (parts .1)))
 
-  pub exchange-from : (m : Run) (xs ys ys′ zs : List ℕ)
-      → feedBy (skipStep R book room ceiling) m xs .ended ≡ given tt
-      → settled book (feedBy (skipStep R book room ceiling) m xs .last .reading) (innermost (feedBy (skipStep R book room ceiling) m xs .last .levels)) ≡ true
+  -- from any run on
+  pub exchange-from : (m : Run) (xs ys ys′ zs : List ℕ) → skipFrom R book room ceiling m xs .ended ≡ given tt
+      → (let at : Run = skipFrom R book room ceiling m xs .last in settled book (at .reading) (innermost (at .levels)) ≡ true)
       → wellNested (R .letters) ys ≡ true → wellNested (R .letters) ys′ ≡ true
       → m .reading .taken + length (xs ++ (ys′ ++ zs)) ≤ mostEvents
-      → feedBy (skipStep R book room ceiling) m (xs ++ (ys ++ zs)) .ended ≡ given tt
-      → Exchanged (feedBy (skipStep R book room ceiling) m (xs ++ (ys ++ zs))) (feedBy (skipStep R book room ceiling) m (xs ++ (ys′ ++ zs)))
+      → skipFrom R book room ceiling m (xs ++ (ys ++ zs)) .ended ≡ given tt
+      → Exchanged (skipFrom R book room ceiling m (xs ++ (ys ++ zs))) (skipFrom R book room ceiling m (xs ++ (ys′ ++ zs)))
   exchange-from m xs ys ys′ zs taken settles nested nested′ limit all =
       let step = skipStep R book room ceiling in
-      let to-level = all-counted R book room ceiling m xs taken .0 in
+      let counted = all-counted R book room ceiling m xs taken .0 in
       let total = length-append xs (ys′ ++ zs) in
       let first = feed-append step m xs (ys ++ zs) taken in
       rw (first, feed-append step m xs (ys′ ++ zs) taken)
-      (from-level (feedBy step m xs .last) ys ys′ zs settles nested nested′ (omega arith) (rw first at all))
+      (exchange-on (feedBy step m xs .last) ys ys′ zs settles nested nested′ (omega arith) (rw first at all))
 
 -- ---- whole readings
 
@@ -347,10 +359,9 @@ end-same : (R : Rule) (m m′ : Run) {j : Judged} → SameButPlaces m m′ → e
 unfolding endOf
 end-same R m m′ same judged =
     let passes = refuse-given 12 _ (0 <? m .reading .depth + m .reading .skip) _ judged in
-    refuse-passes 12 _ _ (rw (same .depth, same .skip) at (passes .0))
-    ∙ rw (← same .state) (passes .1)
+    refuse-passes 12 _ _ (rw (same .depth, same .skip) at (passes .0)) ∙ rw (← same .state) (passes .1)
 
--- the second run of events ends with that verdict in that state too, by as many looks
+-- the second events are taken whole too, and end with that verdict in that state, by as many looks as the first
 pub record EndsSame (R : Rule) (book : List ℕ) (room ceiling : ℕ) (es es′ : List ℕ) (j : Judged) : Type 0 where
   pub takesAll : skipRun R book room ceiling es′ .ended ≡ given tt
   pub verdict : endOfRun R (skipRun R book room ceiling es′ .last) ≡ given j
@@ -360,7 +371,7 @@ pub record EndsSame (R : Rule) (book : List ℕ) (room ceiling : ℕ) (es es′ 
 -- then zs, it does so with any other well-nested part in the place of ys.
 pub exchange : (R : Rule) (book : List ℕ) (room ceiling : ℕ) (xs ys ys′ zs : List ℕ) {j : Judged}
     → skipRun R book room ceiling xs .ended ≡ given tt
-    → settled book (skipRun R book room ceiling xs .last .reading) (innermost (skipRun R book room ceiling xs .last .levels)) ≡ true
+    → (let at : Run = skipRun R book room ceiling xs .last in settled book (at .reading) (innermost (at .levels)) ≡ true)
     → wellNested (R .letters) ys ≡ true → wellNested (R .letters) ys′ ≡ true → length (xs ++ (ys′ ++ zs)) ≤ mostEvents
     → skipRun R book room ceiling (xs ++ (ys ++ zs)) .ended ≡ given tt
     → endOfRun R (skipRun R book room ceiling (xs ++ (ys ++ zs)) .last) ≡ given j

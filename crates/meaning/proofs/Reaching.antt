@@ -1,15 +1,16 @@
 -- Laws of Reach, of still and hold, and of the moves of a rule: where a move leads is a state of the rule, Reach is the least
 -- set that holds its start and is closed under moves, and what is still or held stays so along Reach. Everything above goes
 -- by these laws and not by the text of Reach or of the lower states that count.
-use mathlib.Core.Path.{_≡_, refl, sym, ap, _∙_, subst}
-use mathlib.Core.Bool.{Bool, true, false, _||_}
+use mathlib.Core.Path.{_≡_, refl}
+use mathlib.Core.Bool.{Bool, true, false}
 use mathlib.Core.List.{List, [], _∷_}
-use Prim.Native.Nat.{ℕ, zero, suc, _+_, _*_, _<_, _≤_}
+use Prim.Native.Nat.{ℕ, zero, suc, _<_}
 use native.Mathlib.Omega.{arith}
 use lib.ListN.{length, getD}
 use borrow.Author.Tests.{eqb-true, ltb-true, lt-ltb}
 use Rattle.meaning.specs.Answers.{_<?_, _=?_, if_then_else_}
-use Rattle.meaning.specs.RuleFile.{Rule, IsRule, Move, noMove, to, asMove, letterMove, treeMove, treeStartMove, isMove, isState, none}
+use Rattle.meaning.specs.RuleFile.{Rule, IsRule, isMove, isState, none, noMove, to, asMove}
+use Rattle.meaning.specs.RuleFile.{letterMove, treeMove, treeStartMove}
 use Rattle.meaning.specs.SkipBook.{canEndTree, Reach, itself, byLetter, byTree, Still, Hold, noneOr, inStill, inHold, IsBook}
 use Rattle.meaning.proofs.Truths.{or-true-first, true-is-not-false}
 
