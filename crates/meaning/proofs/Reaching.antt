@@ -63,19 +63,20 @@ module _ {R : Rule} (rule : IsRule R) where
 -- Full reading has only such states inside an open tree: the tree start is one, and so is where a letter move leads from
 -- one, or a tree move whose lower state is one too.
 module _ {R : Rule} (rule : IsRule R) where
-  pub start-ends-tree : {q : ℕ} → treeStartMove R ≡ to q → canEndTree R q ≡ true
+  ends-tree : {q : ℕ} → q < R .states → canEndTree R q ≡ true
   unfolding canEndTree
-  start-ends-tree {q} leads = lt-ltb q (R .states) (start-below rule leads)
+  ends-tree {q} low = lt-ltb q (R .states) low
+
+  pub start-ends-tree : {q : ℕ} → treeStartMove R ≡ to q → canEndTree R q ≡ true
+  start-ends-tree leads = ends-tree (start-below rule leads)
 
   pub letter-ends-tree : (p a : ℕ) {q : ℕ} → canEndTree R p ≡ true → a < R .letters → letterMove R p a ≡ to q
       → canEndTree R q ≡ true
-  unfolding canEndTree
-  letter-ends-tree p a {q} ends known leads = lt-ltb q (R .states) (letter-below rule p a leads)
+  letter-ends-tree p a ends known leads = ends-tree (letter-below rule p a leads)
 
   pub tree-ends-tree : (p lower : ℕ) {q : ℕ} → canEndTree R p ≡ true → canEndTree R lower ≡ true → treeMove R p lower ≡ to q
       → canEndTree R q ≡ true
-  unfolding canEndTree
-  tree-ends-tree p lower {q} ends below leads = lt-ltb q (R .states) (tree-below rule p lower leads)
+  tree-ends-tree p lower ends below leads = ends-tree (tree-below rule p lower leads)
 
 -- ---- Reach
 
