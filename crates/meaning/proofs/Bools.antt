@@ -9,39 +9,7 @@ use native.Mathlib.Omega.{arith}
 use lib.ListN.{length, getD}
 use Rattle.meaning.specs.SkipBook.{allBelow, anyBelow, listed}
 use Rattle.meaning.proofs.Answered.{and-true, both-true}
-
--- ---- truth values
-
--- no test is both true and false
-pub true-is-not-false : {b : Bool} {A : Type 0} → b ≡ true → b ≡ false → A
-true-is-not-false p q = let z : _≡_ {A = ℕ} 0 1 = cc in absurd (omega arith)
-
--- a test that is not true is false
-pub not-true-false : (b : Bool) → (b ≡ true → ⊥) → b ≡ false
-not-true-false true h = absurd (h refl)
-not-true-false false h = refl
-
-pub and-false-right : (a : Bool) {b : Bool} → b ≡ false → (a && b) ≡ false
-and-false-right true e = e
-and-false-right false e = refl
-
-pub or-true : (a b : Bool) → (a || b) ≡ true → (a ≡ false) → b ≡ true
-or-true true b e z = true-is-not-false refl z
-or-true false b e z = e
-
-pub or-true-first : (a b : Bool) → (a || b) ≡ true → (b ≡ false) → a ≡ true
-or-true-first true b e z = refl
-or-true-first false b e z = true-is-not-false e z
-
-pub or-true-left : {a : Bool} (b : Bool) → a ≡ true → (a || b) ≡ true
-or-true-left b e = rw e
-
-pub or-true-right : (a : Bool) {b : Bool} → b ≡ true → (a || b) ≡ true
-or-true-right true e = refl
-or-true-right false e = e
-
-pub both-false : {a b : Bool} → a ≡ false → b ≡ false → (a || b) ≡ false
-both-false p q = rw p q
+pub use Rattle.meaning.proofs.Truths.{true-is-not-false, not-true-false, and-false-right, or-true, or-true-first, or-true-left, or-true-right, both-false}
 
 -- ---- the numbers below n
 

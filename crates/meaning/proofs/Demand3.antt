@@ -1,32 +1,39 @@
 -- Demand 3 of document 01: where full reading ends with a verdict, skipping with the rule's own book ends with the same
 -- verdict in the same state, and its looks are the events not passed over. One statement relates the two readings, and every
 -- event that full reading takes keeps it: on a settled level skipping stands still while full reading moves within Reach.
-use mathlib.Core.Path.{_≡_, refl, sym, ap, _∙_}
+use mathlib.Core.Path.{_≡_, refl, _∙_}
 use mathlib.Core.Bool.{Bool, true, false, not, _&&_, _||_}
 use mathlib.Core.List.{List, [], _∷_, _++_}
 use Prim.Native.Nat.{ℕ, zero, suc, _+_, _-_, _<_, _≤_}
 use native.Mathlib.Omega.{arith}
 use lib.ListN.{length}
-use borrow.Author.Tests.{lt-ltb, le-ltb, ltb-true, ltb-false, leb-false, lt-leb, eqb-false, ne-eqb}
+use borrow.Author.Tests.{lt-ltb, le-ltb, ltb-true, ltb-false, leb-false, lt-leb}
 use Rattle.meaning.specs.declared.Reading.{Reading}
 use Rattle.meaning.specs.declared.Level.{Level}
-use Rattle.meaning.specs.Answers.{Answer, given, refused, refuse_at_when_otherwise_, _giving_, _≤?_, _<?_, _=?_, if_then_else_}
-use Rattle.meaning.specs.RuleFile.{Rule, IsRule, Move, noMove, to, letterMove, treeMove, treeStartMove}
-use Rattle.meaning.specs.FullReading.{Event, opens, closes, letter, eventOf, Turn, stays, stores, ends, look, looked, opened, letterTable, startTable, treeTable, fullTurn, knownEvent, fullEvent, fullStep, Run, innermost, outer, blank, runAfter, freshReading, Went, feedBy, mostEvents}
-use Rattle.meaning.specs.SkipBook.{canEndTree, Reach, inStill, inHold, IsBook}
+use Rattle.meaning.specs.Answers.{Answer, given, refused, _≤?_, _<?_, if_then_else_}
+use Rattle.meaning.specs.RuleFile.{Rule, IsRule, to, letterMove, treeMove, treeStartMove}
+use Rattle.meaning.specs.FullReading.{Event, opens, closes, letter, eventOf, letterTable, startTable, treeTable}
+use Rattle.meaning.specs.FullReading.{Turn, ends, looked, opened, fullTurn, knownEvent, fullEvent, fullStep}
+use Rattle.meaning.specs.FullReading.{Run, innermost, outer, runAfter, freshReading}
+use Rattle.meaning.specs.SkipBook.{canEndTree, Reach, inStill, IsBook}
 use Rattle.meaning.specs.Skipping.{held, settled, passed, endsLevel, settledTurn, skipTurn, skipEvent, skipStep}
-use Rattle.meaning.specs.PassedOver.{levelHeld, levelSettled, outsideSettled, closesStill, passedOver, thenCount, notPassedOver}
+use Rattle.meaning.specs.PassedOver.{levelHeld, levelSettled, outsideSettled, closesStill, passedOver}
+use Rattle.meaning.specs.PassedOver.{thenCount, notPassedOver}
 use Rattle.meaning.specs.Calls.{Judged, endOf}
 use Rattle.meaning.proofs.Answered.{if-true, if-false, both-true, refuse-given, refuse-passes}
-use Rattle.meaning.proofs.Truths.{true-is-not-false, by-cases, or-true-first, or-true-second, or-true-left, or-true-right, and-false-right}
-use Rattle.meaning.proofs.Reaching.{reach-itself, reach-letter, reach-tree, reach-below, start-below, letter-below, tree-below, initial-below, start-ends-tree, letter-ends-tree, tree-ends-tree, still-stays, hold-stays, hold-returns}
-use Rattle.meaning.proofs.Following.{Follows, notAsked, bothGive, refuse-each, refuse-first, if-second, follows-so, where-first-gives, giving-each, look-first, look-each, feed-each}
+use Rattle.meaning.proofs.Truths.{true-is-not-false, by-cases, or-true-first, or-true, or-true-left, or-true-right}
+use Rattle.meaning.proofs.Truths.{and-false-right}
+use Rattle.meaning.proofs.Reaching.{letter-below, tree-below, start-below, initial-below}
+use Rattle.meaning.proofs.Reaching.{letter-ends-tree, tree-ends-tree, start-ends-tree}
+use Rattle.meaning.proofs.Reaching.{reach-itself, reach-letter, reach-tree, still-stays, hold-stays, hold-returns}
+use Rattle.meaning.proofs.Following.{Follows, bothGive, refuse-each, refuse-first, if-second, look-first, look-each}
+use Rattle.meaning.proofs.Following.{giving-each, follows-so, where-first-gives, feed-each}
 use Rattle.meaning.proofs.Runs.{freshRun, fullRun, skipRun, endOfRun}
 
 -- ---- what relates the two readings
 
--- Where full reading can be, with state x and levels τ inside, while skipping stands on a level with state q: on that level,
--- in Reach(q); or inside it, with states that can end a tree.
+-- Where full reading can be, with state x and the levels τ inside, while skipping stands on a level with state q: on that
+-- level, in Reach(q); or inside it, in states that can end a tree.
 pub data Ahead (R : Rule) (q : ℕ) : ℕ → List Level → Type 0 where
   here : {x : ℕ} → Reach R q x → Ahead R q x []
   inside : {x : ℕ} {l : Level} {τ : List Level} → canEndTree R x ≡ true → Ahead R q (l .above) τ → Ahead R q x (l ∷ τ)
@@ -34,10 +41,10 @@ pub data Ahead (R : Rule) (q : ℕ) : ℕ → List Level → Type 0 where
 -- the levels outside the one where skipping stands: none is settled
 pub data Outside (R : Rule) (book : List ℕ) : List Level → Type 0 where
   atTop : Outside R book []
-  within : {l : Level} {σ : List Level} → l .above < R .states → levelSettled book (l .above) σ ≡ false → Outside R book σ
-      → Outside R book (l ∷ σ)
+  within : {l : Level} {σ : List Level} → l .above < R .states → levelSettled book (l .above) σ ≡ false
+      → Outside R book σ → Outside R book (l ∷ σ)
 
--- the numbers of the two readings: skipping stores the levels σ and only counts τ
+-- the numbers of the two readings: skipping stores the levels σ and only counts the levels τ
 pub record Counts (r : Reading) (τ : List Level) (r′ : Reading) (σ : List Level) : Type 0 where
   pub skip : r′ .skip ≡ length τ
   pub stored : r′ .depth ≡ length σ
@@ -45,9 +52,8 @@ pub record Counts (r : Reading) (τ : List Level) (r′ : Reading) (σ : List Le
   pub taken : r .taken ≡ r′ .taken
   pub looks : r′ .looks ≤ r .looks
 
--- Full reading r with the levels τ ++ σ, and skipping r′ with the levels σ: the levels are those by the shape of the
--- statement; full reading is within what the level where skipping stands can come to; if that level is not settled, the two
--- stand together; and no level outside is settled.
+-- Full reading r with the levels τ ++ σ, and skipping r′ with the levels σ: full reading is where the level of skipping can
+-- come to; if that level is not settled, the two stand together; and no level outside is settled.
 pub record Alongside (R : Rule) (book : List ℕ) (r : Reading) (τ : List Level) (r′ : Reading) (σ : List Level) : Type 0 where
   pub counts : Counts r τ r′ σ
   pub state : r′ .state < R .states
@@ -61,88 +67,99 @@ pub data Simulates (R : Rule) (book : List ℕ) : Run → Run → Type 0 where
 
 -- ---- full reading ahead
 
+here-reach : {R : Rule} {q x : ℕ} → Ahead R q x [] → Reach R q x
+here-reach (here reach) = reach
+
 module _ {R : Rule} (rule : IsRule R) {q : ℕ} where
-  ahead-letter : {x : ℕ} {τ : List Level} (a : ℕ) {y : ℕ} → Ahead R q x τ → a < R .letters → letterMove R x a ≡ to y → Ahead R q y τ
+  ahead-letter : {x : ℕ} {τ : List Level} (a : ℕ) {y : ℕ} → Ahead R q x τ → a < R .letters → letterMove R x a ≡ to y
+      → Ahead R q y τ
   ahead-letter a (here reach) known leads = here (reach-letter a reach known leads)
   ahead-letter a (inside {x} can rest) known leads = inside (letter-ends-tree rule x a can known leads) rest
 
   ahead-open : (l : Level) {τ : List Level} {y : ℕ} → Ahead R q (l .above) τ → treeStartMove R ≡ to y → Ahead R q y (l ∷ τ)
   ahead-open l rest leads = inside (start-ends-tree rule leads) rest
 
-  back : {u : ℕ} {τ : List Level} (x : ℕ) {y : ℕ} → Ahead R q u τ → canEndTree R x ≡ true → treeMove R u x ≡ to y → Ahead R q y τ
-  back x (here reach) can leads = here (reach-tree x reach can leads)
-  back x (inside {x = u} can′ rest) can leads = inside (tree-ends-tree rule u x can′ can leads) rest
+  back-out : {u : ℕ} {τ : List Level} (x : ℕ) {y : ℕ} → Ahead R q u τ → canEndTree R x ≡ true → treeMove R u x ≡ to y
+      → Ahead R q y τ
+  back-out x (here reach) can leads = here (reach-tree x reach can leads)
+  back-out x (inside {x = u} can′ rest) can leads = inside (tree-ends-tree rule u x can′ can leads) rest
 
-  ahead-close : {x : ℕ} {l : Level} {τ : List Level} {y : ℕ} → Ahead R q x (l ∷ τ) → treeMove R (l .above) x ≡ to y → Ahead R q y τ
-  ahead-close (inside {x} can rest) leads = back x rest can leads
-
-here-reach : {R : Rule} {q x : ℕ} → Ahead R q x [] → Reach R q x
-here-reach (here reach) = reach
+  ahead-close : {x : ℕ} {l : Level} {τ : List Level} {y : ℕ} → Ahead R q x (l ∷ τ) → treeMove R (l .above) x ≡ to y
+      → Ahead R q y τ
+  ahead-close (inside {x} can rest) leads = back-out x rest can leads
 
 -- ---- settled levels
 
 -- Skipping asks its depth and the innermost record, and what is passed over is said of the levels: the same.
-held-is : (book : List ℕ) (r : Reading) (σ : List Level) → r .depth ≡ length σ
+pub held-is : (book : List ℕ) (r : Reading) (σ : List Level) → r .depth ≡ length σ
     → held book r (innermost σ) ≡ levelHeld book (r .state) σ
 unfolding held levelHeld innermost
 held-is book r [] depth = rw (le-ltb 0 (r .depth) (omega arith))
 held-is book r (l ∷ σ) depth = rw (lt-ltb 0 (r .depth) (omega arith))
 
-settled-is : (book : List ℕ) (r : Reading) (σ : List Level) → r .depth ≡ length σ
+pub settled-is : (book : List ℕ) (r : Reading) (σ : List Level) → r .depth ≡ length σ
     → settled book r (innermost σ) ≡ levelSettled book (r .state) σ
 unfolding settled levelSettled
 settled-is book r σ depth = rw (held-is book r σ depth)
 
-outside-unsettled : {R : Rule} {book : List ℕ} {σ : List Level} → Outside R book σ → outsideSettled book σ ≡ false
-unfolding outsideSettled
-outside-unsettled atTop = refl
-outside-unsettled (within low unsettled rest) = rw (unsettled, outside-unsettled rest)
+module _ {R : Rule} {book : List ℕ} where
+  pub outside-unsettled : {σ : List Level} → Outside R book σ → outsideSettled book σ ≡ false
+  unfolding outsideSettled
+  outside-unsettled atTop = refl
+  outside-unsettled (within low unsettled rest) = rw (unsettled, outside-unsettled rest)
 
-module _ {R : Rule} {book : List ℕ} (rule : IsRule R) (own : IsBook R book) where
+  outside-above : {l : Level} {σ : List Level} → Outside R book (l ∷ σ) → l .above < R .states
+  outside-above (within low unsettled rest) = low
+
+  outside-outer : {σ : List Level} → Outside R book σ → Outside R book (outer σ)
+  unfolding outer
+  outside-outer atTop = atTop
+  outside-outer (within low unsettled rest) = rest
+
+module _ {R : Rule} {book : List ℕ} (rule : IsRule R) (own : IsBook R book) {q : ℕ} (low : q < R .states) where
   -- what a held level can come to is held
-  held-stays : {q x : ℕ} (σ : List Level) → q < R .states → Outside R book σ → levelHeld book q σ ≡ true → Reach R q x
+  held-stays : {x : ℕ} {σ : List Level} → Outside R book σ → levelHeld book q σ ≡ true → Reach R q x
       → levelHeld book x σ ≡ true
   unfolding levelHeld
-  held-stays [] low atTop held reach = true-is-not-false held refl
-  held-stays (l ∷ σ) low (within upper unsettled rest) held reach = hold-stays rule own (l .above) upper low held reach
+  held-stays atTop holds reach = true-is-not-false holds refl
+  held-stays (within {l} upper unsettled rest) holds reach = hold-stays rule own (l .above) upper low holds reach
 
-  -- what a settled level can come to is settled
-  settled-stays : {q x : ℕ} (σ : List Level) → q < R .states → Outside R book σ → levelSettled book q σ ≡ true → Reach R q x
-      → levelSettled book x σ ≡ true
-  unfolding levelSettled
-  settled-stays {q} {x} σ low outside settles reach =
-      by-cases (inStill book q)
-      (λ still. or-true-left {a = inStill book x} _ (rw (still-stays rule own low still reach) still))
-      (λ moves. or-true-right (inStill book x) (held-stays σ low outside (or-true-second (inStill book q) _ settles moves) reach))
+  module _ {σ : List Level} (outside : Outside R book σ) (settles : levelSettled book q σ ≡ true) where
+    -- what a settled level can come to is settled
+    settled-stays : {x : ℕ} → Reach R q x → levelSettled book x σ ≡ true
+    unfolding levelSettled
+    settled-stays {x} reach =
+        by-cases (inStill book q)
+        (λ still. or-true-left {a = inStill book x} _ (rw (still-stays rule own low still reach) still))
+        (λ moves. or-true-right (inStill book x)
+        (held-stays outside (or-true (inStill book q) _ settles moves) reach))
 
-  -- ahead of a settled level, full reading stands on a settled level or inside of one
-  ahead-settled : {q x : ℕ} {τ : List Level} (σ : List Level) → q < R .states → Outside R book σ → levelSettled book q σ ≡ true
-      → Ahead R q x τ → (levelSettled book x (τ ++ σ) || outsideSettled book (τ ++ σ)) ≡ true
-  unfolding outsideSettled
-  ahead-settled σ low outside settles (here reach) = or-true-left _ (settled-stays σ low outside settles reach)
-  ahead-settled σ low outside settles (inside {x} {l} {τ} can rest) = or-true-right (levelSettled book x (l ∷ τ ++ σ)) (ahead-settled σ low outside settles rest)
+    -- ahead of a settled level, full reading stands on a settled level or inside of one
+    ahead-settled : {x : ℕ} {τ : List Level} → Ahead R q x τ
+        → (levelSettled book x (τ ++ σ) || outsideSettled book (τ ++ σ)) ≡ true
+    unfolding outsideSettled
+    ahead-settled (here reach) = or-true-left _ (settled-stays reach)
+    ahead-settled (inside {x} {l} {τ} can rest) = or-true-right (levelSettled book x (l ∷ τ ++ σ)) (ahead-settled rest)
 
-  -- inside of a settled level some level outside is settled
-  inside-settled : {q x : ℕ} {l : Level} {τ : List Level} (σ : List Level) → q < R .states → Outside R book σ
-      → levelSettled book q σ ≡ true → Ahead R q x (l ∷ τ) → outsideSettled book (l ∷ τ ++ σ) ≡ true
-  unfolding outsideSettled
-  inside-settled σ low outside settles (inside can rest) = ahead-settled σ low outside settles rest
+    inside-settled : {x : ℕ} {l : Level} {τ : List Level} → Ahead R q x (l ∷ τ) → outsideSettled book (l ∷ τ ++ σ) ≡ true
+    unfolding outsideSettled
+    inside-settled (inside can rest) = ahead-settled rest
 
--- ---- one event
+-- ---- after an event
 
--- whether an event is passed over, from the state and the levels of full reading
-abbrev over : List ℕ → ℕ → List Level → Event → Bool
-over book x ls v = (levelSettled book x ls || outsideSettled book ls) && not (closesStill book x ls v)
-
--- after an event: the two still stand alongside, and skipping has made so many looks
+-- the two still stand alongside, and skipping has made so many looks
 pub record Kept (R : Rule) (book : List ℕ) (looks : ℕ) (m s : Run) : Type 0 where
   pub related : Simulates R book m s
   pub counted : s .reading .looks ≡ looks
 
--- the same, of what the event leads to
-abbrev After : (R : Rule) (book : List ℕ) (r : Reading) (τ : List Level) (r′ : Reading) (σ : List Level) → Event → Turn → Turn → Type 0
-After R book r τ r′ σ v t t′ =
-    Kept R book (r′ .looks + (if over book (r .state) (τ ++ σ) v then 0 else 1)) (runAfter (τ ++ σ) t) (runAfter σ t′)
+-- whether an event is passed over, by the state and the levels of full reading
+abbrev over : List ℕ → ℕ → List Level → Event → Bool
+over book x ls v = (levelSettled book x ls || outsideSettled book ls) && not (closesStill book x ls v)
+
+-- what an event leads to, in full reading and in skipping
+abbrev After : Rule → List ℕ → Reading → List Level → Reading → List Level → Event → Turn → Turn → Type 0
+After R book r τ r′ σ v turn turn′ =
+    Kept R book (r′ .looks + (if over book (r .state) (τ ++ σ) v then 0 else 1)) (runAfter (τ ++ σ) turn) (runAfter σ turn′)
 
 one-look : (n : ℕ) {b : Bool} → b ≡ false → n + 1 ≡ n + (if b then 0 else 1)
 one-look n e = rw (if-false {A = ℕ} 0 1 e)
@@ -150,31 +167,51 @@ one-look n e = rw (if-false {A = ℕ} 0 1 e)
 no-look : (n : ℕ) {b : Bool} → b ≡ true → n ≡ n + (if b then 0 else 1)
 no-look n e = rw (if-true {A = ℕ} 0 1 e) (omega arith)
 
+module _ {R : Rule} {book : List ℕ} {n : ℕ} (r r′ : Reading) where
+  -- the two stand together, in one state
+  meet : (σ : List Level) → Counts r [] r′ σ → r′ .state < R .states → Outside R book σ → r .state ≡ r′ .state → r′ .looks ≡ n
+      → Kept R book n (record { reading = r; levels = σ }) (record { reading = r′; levels = σ })
+  meet σ counts low outside same looks =
+      let along : Alongside R book r [] r′ σ =
+      record {
+        counts = counts;
+        state = low;
+        ahead = here {x = r .state} (rw same reach-itself);
+        together = λ unsettled. (refl, same);
+        outside = outside;
+      } in
+      record { related = simulates along; counted = looks }
+
+  -- skipping stands on a settled level, and full reading is ahead
+  stand : (τ σ : List Level) → Counts r τ r′ σ → r′ .state < R .states → Outside R book σ → Ahead R (r′ .state) (r .state) τ
+      → levelSettled book (r′ .state) σ ≡ true → r′ .looks ≡ n
+      → Kept R book n (record { reading = r; levels = τ ++ σ }) (record { reading = r′; levels = σ })
+  stand τ σ counts low outside ahead settles looks =
+      let along : Alongside R book r τ r′ σ =
+      record {
+        counts = counts;
+        state = low;
+        ahead = ahead;
+        together = λ unsettled. true-is-not-false settles unsettled;
+        outside = outside;
+      } in
+      record { related = simulates along; counted = looks }
+
+-- ---- one event
+
 -- who has used less is not refused sooner
 not-sooner : (most m n : ℕ) → n ≤ m → (most ≤? m) ≡ false → (most ≤? n) ≡ false
 not-sooner most m n less free = lt-leb most n (omega (arith, leb-false most m free))
 
--- two that stand together in one state
-in-one-state : {R : Rule} {book : List ℕ} (r r′ : Reading) (σ : List Level) → Counts r [] r′ σ → r .state ≡ r′ .state
-    → r′ .state < R .states → Outside R book σ → Alongside R book r [] r′ σ
-in-one-state {R} r r′ σ counts same low outside =
-    record {
-      counts = counts;
-      state = low;
-      ahead = here {x = r .state} (rw same reach-itself);
-      together = λ unsettled. (refl, same);
-      outside = outside;
-    }
+-- one state and one place make one record
+opened-same : (r r′ : Reading) → r .state ≡ r′ .state → r .taken ≡ r′ .taken → opened r ≡ opened r′
+unfolding opened
+opened-same r r′ state taken = λ i. record { above = state i; opened = taken i }
 
 length-outer : (σ : List Level) → length (outer σ) ≡ length σ - 1
 unfolding outer
 length-outer [] = refl
 length-outer (l ∷ σ) = omega arith
-
-outside-outer : {R : Rule} {book : List ℕ} {σ : List Level} → Outside R book σ → Outside R book (outer σ)
-unfolding outer
-outside-outer atTop = atTop
-outside-outer (within low unsettled rest) = rest
 
 -- a letter that is not refused is one of the rule's
 known-letter : (k e : ℕ) → (k + 2 ≤? e) ≡ false → (a : ℕ) → eventOf e ≡ letter a → a < k
@@ -185,174 +222,146 @@ known-letter k (suc (suc b)) known a is =
     let same : b ≡ a = cc in
     omega (arith, leb-false (k + 2) (suc (suc b)) known)
 
-outside-above : {R : Rule} {book : List ℕ} {l : Level} {σ : List Level} → Outside R book (l ∷ σ) → l .above < R .states
-outside-above (within low unsettled rest) = low
+-- The two on one level: skipping counts no level inside.
+module _ {R : Rule} {book : List ℕ} (rule : IsRule R) (own : IsBook R book) (room ceiling : ℕ)
+    {r r′ : Reading} {σ : List Level} (along : Alongside R book r [] r′ σ) where
+  below-ceiling : (ceiling ≤? r .looks) ≡ false → (ceiling ≤? r′ .looks) ≡ false
+  below-ceiling = not-sooner ceiling (r .looks) (r′ .looks) (along .counts .looks)
 
-module _ {R : Rule} {book : List ℕ} (rule : IsRule R) (own : IsBook R book) (room ceiling : ℕ) where
-  -- both look: the two stand together before and after
-  both-look : {r r′ : Reading} (σ : List Level) → Alongside R book r [] r′ σ → r .state ≡ r′ .state → (v : Event)
-      → over book (r .state) σ v ≡ false → (v ≡ opens → levelSettled book (r′ .state) σ ≡ false)
-      → Follows (After R book r [] r′ σ v) (fullTurn R room ceiling r (innermost σ) v) (fullTurn R room ceiling r′ (innermost σ) v)
-  unfolding fullTurn looked opened runAfter
-  both-look {r} {r′} σ along same (letter a) needed unsettled =
-      refuse-each 9 _ 9 _ _ _ (not-sooner ceiling (r .looks) (r′ .looks) (along .counts .looks))
+  -- both look, from one state to one state
+  both-look : r .state ≡ r′ .state → (v : Event) → over book (r .state) σ v ≡ false
+      → (v ≡ opens → levelSettled book (r′ .state) σ ≡ false)
+      → Follows (After R book r [] r′ σ v) (fullTurn R room ceiling r (innermost σ) v)
+      (fullTurn R room ceiling r′ (innermost σ) v)
+  unfolding fullTurn looked runAfter opened
+  both-look same (letter a) needed unsettled =
+      refuse-each 9 _ _ _ _ below-ceiling
       λ free. look-each letterTable _ _ _ _ (cc)
-      λ q leads. bothGive (
-      record {
-        related = simulates {τ = []} (in-one-state _ _ σ (omega arith) refl (letter-below rule (r .state) a leads) (along .outside));
-        counted = one-look (r′ .looks) needed;
-      }
-      )
-  both-look {r} {r′} σ along same opens needed unsettled =
-      refuse-each 8 _ 8 _ _ _ (not-sooner room (r .depth) (r′ .depth) (omega arith))
-      λ fits. refuse-each 9 _ 9 _ _ _ (not-sooner ceiling (r .looks) (r′ .looks) (along .counts .looks))
+      λ q leads. bothGive
+      (meet (looked r q (r .depth)) (looked r′ q (r′ .depth)) σ (omega arith) (letter-below rule (r .state) a leads)
+      (along .outside) refl (one-look (r′ .looks) needed))
+  both-look same opens needed unsettled =
+      refuse-each 8 _ _ _ _ (not-sooner room (r .depth) (r′ .depth) (omega arith))
+      λ fits. refuse-each 9 _ _ _ _ below-ceiling
       λ free. look-each startTable _ _ _ _ refl
-      λ q leads. bothGive (
-      record {
-        related =
-            let one-record : opened r ≡ opened r′ = λ i. record { above = same i; opened = along .counts .taken i } in
-            rw one-record
-            (simulates {τ = []}
-            (in-one-state (looked r q (r .depth + 1)) (looked r′ q (r′ .depth + 1)) (opened r′ ∷ σ) (omega arith) refl (start-below rule leads) (within (along .state) (unsettled refl) (along .outside))));
-        counted = one-look (r′ .looks) needed;
-      }
-      )
-  both-look {r} {r′} σ along same closes needed unsettled =
+      λ q leads. bothGive
+      (rw (opened-same r r′ same (along .counts .taken))
+      (meet (looked r q (r .depth + 1)) (looked r′ q (r′ .depth + 1)) (opened r′ ∷ σ) (omega arith) (start-below rule leads)
+      (within (along .state) (unsettled refl) (along .outside)) refl (one-look (r′ .looks) needed)))
+  both-look same closes needed unsettled =
       let level : r .depth ≡ r′ .depth = omega arith in
-      refuse-each 7 _ 7 _ _ _ (λ deep. rw level at deep)
-      λ deep. refuse-each 9 _ 9 _ _ _ (not-sooner ceiling (r .looks) (r′ .looks) (along .counts .looks))
+      refuse-each 7 _ _ _ _ (λ deep. rw level at deep)
+      λ deep. refuse-each 9 _ _ _ _ below-ceiling
       λ free. look-each treeTable _ _ _ _ (cc)
-      λ q leads. bothGive (
-      record {
-        related =
-            simulates {τ = []}
-            (in-one-state _ _ (outer σ) (omega (arith, length-outer σ)) refl (tree-below rule _ (r .state) leads) (outside-outer (along .outside)));
-        counted = one-look (r′ .looks) needed;
-      }
-      )
+      λ q leads. bothGive
+      (meet (looked r q (r .depth - 1)) (looked r′ q (r′ .depth - 1)) (outer σ) (omega (arith, length-outer σ))
+      (tree-below rule _ (r .state) leads) (outside-outer (along .outside)) refl (one-look (r′ .looks) needed))
 
-  -- On an unsettled level the two stand together, and the event is not passed over.
-  unsettled-turn : {r r′ : Reading} {τ : List Level} (σ : List Level) → Alongside R book r τ r′ σ → (v : Event)
-      → levelSettled book (r′ .state) σ ≡ false
-      → Follows (After R book r τ r′ σ v) (fullTurn R room ceiling r (innermost (τ ++ σ)) v) (fullTurn R room ceiling r′ (innermost σ) v)
-  unsettled-turn {τ = []} σ along v unsettled =
-      let same = along .together unsettled .1 in
-      both-look σ along same v (rw (same, unsettled, outside-unsettled (along .outside))) (λ e. unsettled)
-  unsettled-turn {τ = l ∷ τ} σ along v unsettled =
-      let none = along .together unsettled .0 in
-      let z : _≡_ {A = ℕ} 0 1 = cc in absurd (omega arith)
+  -- A close that ends a level settled by still alone: nothing leads away from its state, so both look up the same move.
+  ends-still : levelSettled book (r′ .state) σ ≡ true → levelHeld book (r′ .state) σ ≡ false
+      → Follows (After R book r [] r′ σ closes) (fullTurn R room ceiling r (innermost σ) closes)
+      (fullTurn R room ceiling r′ (innermost σ) closes)
+  unfolding levelSettled closesStill
+  ends-still settles free =
+      let still : inStill book (r′ .state) ≡ true = or-true-first _ (levelHeld book (r′ .state) σ) settles free in
+      let same : r .state ≡ r′ .state = still-stays rule own (along .state) still (here-reach (along .ahead)) in
+      both-look same closes (rw (same, free, outside-unsettled (along .outside), still))
+      (λ is. let z : _≡_ {A = ℕ} 0 1 = cc in absurd (omega arith))
 
-  -- ahead of a settled level an event is passed over, but for the exception
-  passes : {r r′ : Reading} {τ : List Level} (σ : List Level) (v : Event) → Alongside R book r τ r′ σ
-      → levelSettled book (r′ .state) σ ≡ true → closesStill book (r .state) (τ ++ σ) v ≡ false
-      → over book (r .state) (τ ++ σ) v ≡ true
-  passes σ v along settles exempt =
-      both-true (ahead-settled rule own σ (along .state) (along .outside) settles (along .ahead)) (rw exempt)
+-- ahead of a settled level an event is passed over, but for the exception
+passes : {R : Rule} {book : List ℕ} {r r′ : Reading} {τ σ : List Level} (v : Event) → IsRule R → IsBook R book
+    → Alongside R book r τ r′ σ → levelSettled book (r′ .state) σ ≡ true → closesStill book (r .state) (τ ++ σ) v ≡ false
+    → over book (r .state) (τ ++ σ) v ≡ true
+passes v rule own along settles exempt =
+    both-true (ahead-settled rule own (along .state) (along .outside) settles (along .ahead)) (rw exempt)
 
+module _ {R : Rule} {book : List ℕ} (rule : IsRule R) (own : IsBook R book) (room ceiling : ℕ) {r r′ : Reading} where
   -- A close that ends a held level: full reading's tree move leads back to the state above.
-  ends-held : {r r′ : Reading} (σ : List Level) → Alongside R book r [] r′ σ → levelSettled book (r′ .state) σ ≡ true
+  ends-held : (σ : List Level) → Alongside R book r [] r′ σ → levelSettled book (r′ .state) σ ≡ true
       → levelHeld book (r′ .state) σ ≡ true
       → Follows (After R book r [] r′ σ closes) (fullTurn R room ceiling r (innermost σ) closes)
       (given (ends (passed r′ (innermost σ .above) (r′ .depth - 1) (r′ .skip))))
   unfolding fullTurn looked passed runAfter innermost outer closesStill levelHeld
   ends-held [] along settles holds = true-is-not-false holds refl
-  ends-held {r} {r′} (l ∷ σ) along settles holds =
-      refuse-first 7 _ _ λ deep. refuse-first 9 _ _ λ free. look-first treeTable _ _ λ q leads. bothGive (
+  ends-held (l ∷ σ) along settles holds =
       let upper = outside-above (along .outside) in
       let reach = here-reach (along .ahead) in
-      let back : q ≡ l .above = hold-returns rule own (l .above) upper (along .state) holds reach leads in
-      record {
-        related =
-            simulates {τ = []}
-            (in-one-state (looked r q (r .depth - 1)) (passed r′ (l .above) (r′ .depth - 1) (r′ .skip)) σ (omega arith) back upper (outside-outer (along .outside)));
-        counted =
-            no-look (r′ .looks)
-            (passes (l ∷ σ) closes along settles
-            (rw (held-stays rule own (l ∷ σ) (along .state) (along .outside) holds reach)));
-      }
-      )
-
-  -- A close that ends a level settled by still alone: nothing leads away from its state, so both look up the same move.
-  ends-still : {r r′ : Reading} (σ : List Level) → Alongside R book r [] r′ σ → levelSettled book (r′ .state) σ ≡ true
-      → levelHeld book (r′ .state) σ ≡ false
-      → Follows (After R book r [] r′ σ closes) (fullTurn R room ceiling r (innermost σ) closes) (fullTurn R room ceiling r′ (innermost σ) closes)
-  unfolding levelSettled closesStill
-  ends-still {r} {r′} σ along settles free =
-      let still : inStill book (r′ .state) ≡ true = or-true-first _ (levelHeld book (r′ .state) σ) settles free in
-      let same : r .state ≡ r′ .state = still-stays rule own (along .state) still (here-reach (along .ahead)) in
-      both-look σ along same closes (rw (same, free, outside-unsettled (along .outside), still)) (λ e. let z : _≡_ {A = ℕ} 0 1 = cc in absurd (omega arith))
+      let exempt = held-stays rule own (along .state) (along .outside) holds reach in
+      refuse-first 7 _ _ λ deep. refuse-first 9 _ _ λ free. look-first treeTable _ _ λ q leads. bothGive
+      (meet (looked r q (r .depth - 1)) (passed r′ (l .above) (r′ .depth - 1) (r′ .skip)) σ (omega arith) upper
+      (outside-outer (along .outside)) (hold-returns rule own (l .above) upper (along .state) holds reach leads)
+      (no-look (r′ .looks) (passes closes rule own along settles (rw exempt))))
 
   -- skipping stands still on its settled level, full reading moves on, and the event is passed over
-  stands : {r r′ : Reading} {τ : List Level} (σ : List Level) (v : Event) → Alongside R book r τ r′ σ
-      → levelSettled book (r′ .state) σ ≡ true → closesStill book (r .state) (τ ++ σ) v ≡ false
-      → (r₁ : Reading) (τ₁ : List Level) (skip : ℕ) → Counts r₁ τ₁ (passed r′ (r′ .state) (r′ .depth) skip) σ
-      → Ahead R (r′ .state) (r₁ .state) τ₁
+  goes-on : {τ σ : List Level} (v : Event) → Alongside R book r τ r′ σ → levelSettled book (r′ .state) σ ≡ true
+      → closesStill book (r .state) (τ ++ σ) v ≡ false → (r₁ : Reading) (τ₁ : List Level) (skip : ℕ)
+      → Counts r₁ τ₁ (passed r′ (r′ .state) (r′ .depth) skip) σ → Ahead R (r′ .state) (r₁ .state) τ₁
       → Kept R book (r′ .looks + (if over book (r .state) (τ ++ σ) v then 0 else 1)) (record { reading = r₁; levels = τ₁ ++ σ })
       (record { reading = passed r′ (r′ .state) (r′ .depth) skip; levels = σ })
   unfolding passed
-  stands {r} {r′} {τ} σ v along settles exempt r₁ τ₁ skip counts ahead =
-      record {
-        related =
-            simulates {τ = τ₁} (
-            record {
-              counts = counts;
-              state = along .state;
-              ahead = ahead;
-              together = λ unsettled. true-is-not-false settles unsettled;
-              outside = along .outside;
-            }
-            );
-        counted = no-look (r′ .looks) (passes σ v along settles exempt);
-      }
+  goes-on {τ} {σ} v along settles exempt r₁ τ₁ skip counts ahead =
+      stand r₁ (passed r′ (r′ .state) (r′ .depth) skip) τ₁ σ counts (along .state) (along .outside) ahead settles
+      (no-look (r′ .looks) (passes v rule own along settles exempt))
 
-  settled-turn : {r r′ : Reading} {τ : List Level} (σ : List Level) → Alongside R book r τ r′ σ → (v : Event)
-      → ((a : ℕ) → v ≡ letter a → a < R .letters)
-      → levelSettled book (r′ .state) σ ≡ true
+  settled-turn : {τ : List Level} (σ : List Level) → Alongside R book r τ r′ σ → (v : Event)
+      → ((a : ℕ) → v ≡ letter a → a < R .letters) → levelSettled book (r′ .state) σ ≡ true
       → Follows (After R book r τ r′ σ v) (fullTurn R room ceiling r (innermost (τ ++ σ)) v)
       (settledTurn R book room ceiling r′ (innermost σ) v)
   unfolding fullTurn settledTurn endsLevel runAfter innermost outer closesStill opened looked passed
-  settled-turn {r} {r′} {τ} σ along (letter a) known settles =
-      refuse-first 9 _ _ λ free. look-first letterTable _ _ λ q leads. bothGive (
-      stands σ (letter a) along settles refl (looked r q (r .depth)) τ (r′ .skip) (omega arith)
-      (ahead-letter rule a (along .ahead) (known a refl) leads)
-      )
-  settled-turn {r} {r′} {τ} σ along opens known settles =
-      refuse-first 8 _ _ λ fits. refuse-first 9 _ _ λ free. look-first startTable _ _ λ q leads. bothGive (
-      stands σ opens along settles refl (looked r q (r .depth + 1)) (opened r ∷ τ) (r′ .skip + 1) (omega arith)
-      (ahead-open rule (opened r) (along .ahead) leads)
-      )
-  settled-turn {r} {r′} {τ = []} σ along closes known settles =
+  settled-turn {τ} σ along (letter a) known settles =
+      refuse-first 9 _ _ λ free. look-first letterTable _ _ λ q leads. bothGive
+      (goes-on (letter a) along settles refl (looked r q (r .depth)) τ (r′ .skip) (omega arith)
+      (ahead-letter rule a (along .ahead) (known a refl) leads))
+  settled-turn {τ} σ along opens known settles =
+      refuse-first 8 _ _ λ fits. refuse-first 9 _ _ λ free. look-first startTable _ _ λ q leads. bothGive
+      (goes-on opens along settles refl (looked r q (r .depth + 1)) (opened r ∷ τ) (r′ .skip + 1) (omega arith)
+      (ahead-open rule (opened r) (along .ahead) leads))
+  settled-turn {τ = []} σ along closes known settles =
+      let same = held-is book r′ σ (along .counts .stored) in
       if-second _ (λ more. absurd (omega (arith, ltb-true 0 (r′ .skip) more)))
-      λ ends. if-second _ (λ holds. ends-held σ along settles (rw (held-is book r′ σ (along .counts .stored)) at holds)) (λ free. ends-still σ along settles (rw (held-is book r′ σ (along .counts .stored)) at free))
-  settled-turn {r} {r′} {τ = l ∷ τ} σ along closes known settles =
+      λ last. if-second _
+      (λ holds. ends-held σ along settles (rw same at holds))
+      (λ free. ends-still rule own room ceiling along settles (rw same at free))
+  settled-turn {τ = l ∷ τ} σ along closes known settles =
+      let exempt = inside-settled rule own (along .state) (along .outside) settles (along .ahead) in
       if-second _
-      (λ more. refuse-first 7 _ _ λ deep. refuse-first 9 _ _ λ free. look-first treeTable _ _ λ q leads. bothGive (
-      stands σ closes along settles
-      (and-false-right (not (levelHeld book (r .state) (l ∷ τ ++ σ))) (rw (inside-settled rule own σ (along .state) (along .outside) settles (along .ahead))))
-      (looked r q (r .depth - 1)) τ (r′ .skip - 1) (omega arith)
-      (ahead-close rule (along .ahead) leads)
-      ))
-      (λ ends. absurd (omega (arith, ltb-false 0 (r′ .skip) ends)))
+      (λ more. refuse-first 7 _ _ λ deep. refuse-first 9 _ _ λ free. look-first treeTable _ _ λ q leads. bothGive
+      (goes-on closes along settles (and-false-right (not (levelHeld book (r .state) (l ∷ τ ++ σ))) (rw exempt))
+      (looked r q (r .depth - 1)) τ (r′ .skip - 1) (omega arith) (ahead-close rule (along .ahead) leads)))
+      (λ last. absurd (omega (arith, ltb-false 0 (r′ .skip) last)))
 
-  event-kept : {r r′ : Reading} {τ : List Level} (σ : List Level) → Alongside R book r τ r′ σ → (e : ℕ)
+  -- On an unsettled level the two stand together, and the event is not passed over.
+  unsettled-turn : {τ : List Level} (σ : List Level) → Alongside R book r τ r′ σ → (v : Event)
+      → levelSettled book (r′ .state) σ ≡ false
+      → Follows (After R book r τ r′ σ v) (fullTurn R room ceiling r (innermost (τ ++ σ)) v)
+      (fullTurn R room ceiling r′ (innermost σ) v)
+  unsettled-turn {τ = []} σ along v unsettled =
+      let same = along .together unsettled .1 in
+      both-look rule own room ceiling along same v (rw (same, unsettled, outside-unsettled (along .outside))) (λ is. unsettled)
+  unsettled-turn {τ = l ∷ τ} σ along v unsettled =
+      let none = along .together unsettled .0 in
+      let z : _≡_ {A = ℕ} 0 1 = cc in absurd (omega arith)
+
+  event-kept : {τ : List Level} (σ : List Level) → Alongside R book r τ r′ σ → (e : ℕ)
       → Follows (After R book r τ r′ σ (eventOf e)) (fullEvent R room ceiling r (innermost (τ ++ σ)) e)
       (skipEvent R book room ceiling r′ (innermost σ) e)
   unfolding fullEvent skipEvent knownEvent skipTurn
-  event-kept {r} {r′} σ along e =
+  event-kept σ along e =
       let same = settled-is book r′ σ (along .counts .stored) in
-      refuse-each 16 _ 16 _ _ _ (λ free. rw (along .counts .taken) at free)
-      λ free. refuse-each 10 _ 10 _ _ _ (λ known. known)
+      refuse-each 16 _ _ _ _ (λ free. rw (along .counts .taken) at free)
+      λ free. refuse-each 10 _ _ _ _ (λ known. known)
       λ known. if-second _
       (λ settles. settled-turn σ along (eventOf e) (known-letter (R .letters) e known) (rw same at settles))
       (λ moves. unsettled-turn σ along (eventOf e) (rw same at moves))
 
-  -- every event that full reading takes is taken by skipping, and keeps the relation; it is a look of skipping exactly if it
-  -- is not passed over
-  pub step-kept : {m s : Run} → Simulates R book m s → (e : ℕ)
-      → Follows (Kept R book (s .reading .looks + (if passedOver book m e then 0 else 1))) (fullStep R room ceiling m e)
-      (skipStep R book room ceiling s e)
-  unfolding fullStep skipStep passedOver
-  step-kept (simulates {σ} along) e = giving-each (event-kept σ along e) (λ t t′ kept. bothGive kept)
+-- Every event that full reading takes is taken by skipping and keeps the relation. It is a look of skipping exactly if it is
+-- not passed over.
+pub step-kept : {R : Rule} {book : List ℕ} → IsRule R → IsBook R book → (room ceiling : ℕ) {m s : Run} → Simulates R book m s
+    → (e : ℕ) → Follows (Kept R book (s .reading .looks + (if passedOver book m e then 0 else 1))) (fullStep R room ceiling m e)
+    (skipStep R book room ceiling s e)
+unfolding fullStep skipStep passedOver
+step-kept rule own room ceiling (simulates {σ} along) e =
+    giving-each (event-kept rule own room ceiling σ along e) (λ turn turn′ kept. bothGive kept)
 
 -- ---- a run of events
 
@@ -389,16 +398,15 @@ module _ {R : Rule} {book : List ℕ} (rule : IsRule R) (own : IsBook R book) (r
             );
       }
 
-  fresh-related : Simulates R book (freshRun R) (freshRun R)
-  unfolding freshReading
-  fresh-related =
-      simulates {τ = []} (in-one-state (freshReading R) (freshReading R) [] (omega arith) refl (initial-below rule) atTop)
-
   pub skipping-agrees : (es : List ℕ) → fullRun R room ceiling es .ended ≡ given tt → Agrees R book room ceiling es
   unfolding freshReading notPassedOver
   skipping-agrees es all =
       let total : ℕ = notPassedOver R book room ceiling (freshRun R) es in
-      let kept = feed-each (fullStep R room ceiling) (skipStep R book room ceiling) (InAll R book room ceiling total) (all-kept total) es (freshRun R) (freshRun R) (record { related = fresh-related; counted = omega arith }) all in
+      let fresh : Kept R book 0 (freshRun R) (freshRun R) =
+      meet (freshReading R) (freshReading R) [] (omega arith) (initial-below rule) atTop refl refl in
+      let kept =
+      feed-each (fullStep R room ceiling) (skipStep R book room ceiling) (InAll R book room ceiling total) (all-kept total)
+      es (freshRun R) (freshRun R) (record { related = fresh .related; counted = omega arith }) all in
       record { takesAll = kept .0; related = kept .1 .related; looks = omega (arith, kept .1 .counted) }
 
 -- ---- the end
@@ -409,7 +417,8 @@ same-state : {R : Rule} {book : List ℕ} {r r′ : Reading} (τ σ : List Level
 unfolding levelSettled levelHeld
 same-state {book} {r′} [] [] rule own along none =
     by-cases (levelSettled book (r′ .state) [])
-    (λ settles. still-stays rule own (along .state) (or-true-first (inStill book (r′ .state)) false settles refl) (here-reach (along .ahead)))
+    (λ settles. still-stays rule own (along .state) (or-true-first (inStill book (r′ .state)) false settles refl)
+    (here-reach (along .ahead)))
     (λ unsettled. along .together unsettled .1)
 same-state [] (l ∷ σ) rule own along none = absurd (omega arith)
 same-state (l ∷ τ) σ rule own along none = absurd (omega arith)

@@ -19,13 +19,13 @@ module _ {A B : Type 0} {P : A → B → Type 0} where
   -- ---- refuse
 
   -- a test that the second passes where the first does
-  pub refuse-each : (number place number′ place′ : ℕ) (t t′ : Bool) {x : Answer A} {y : Answer B}
+  pub refuse-each : (number place place′ : ℕ) (t t′ : Bool) {x : Answer A} {y : Answer B}
       → (t ≡ false → t′ ≡ false) → (t ≡ false → Follows P x y)
-      → Follows P (refuse number at place when t otherwise x) (refuse number′ at place′ when t′ otherwise y)
+      → Follows P (refuse number at place when t otherwise x) (refuse number at place′ when t′ otherwise y)
   unfolding refuse_at_when_otherwise_
-  refuse-each number place number′ place′ true t′ passes rest = notAsked
-  refuse-each number place number′ place′ false true passes rest = let z : _≡_ {A = ℕ} 0 1 = cc (passes refl) in absurd (omega arith)
-  refuse-each number place number′ place′ false false passes rest = rest refl
+  refuse-each number place place′ true t′ passes rest = notAsked
+  refuse-each number place place′ false true passes rest = let z : _≡_ {A = ℕ} 0 1 = cc (passes refl) in absurd (omega arith)
+  refuse-each number place place′ false false passes rest = rest refl
 
   -- a test that only the first makes
   pub refuse-first : (number place : ℕ) (t : Bool) {x : Answer A} {y : Answer B} → (t ≡ false → Follows P x y)

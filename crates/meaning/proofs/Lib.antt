@@ -27,3 +27,4 @@ pub mod Rounds
 pub mod Bits
 pub mod BookMade
 pub mod Demand3Calls
+pub mod Exchange

@@ -1,15 +1,16 @@
 -- Laws of Reach, of still and hold, and of the moves of a rule: where a move leads is a state of the rule, Reach is the least
 -- set that holds its start and is closed under moves, and what is still or held stays so along Reach. Everything above goes
 -- by these laws and not by the text of Reach or of the lower states that count.
-use mathlib.Core.Path.{_≡_, refl, sym, ap, _∙_, subst}
-use mathlib.Core.Bool.{Bool, true, false, _||_}
+use mathlib.Core.Path.{_≡_, refl}
+use mathlib.Core.Bool.{Bool, true, false}
 use mathlib.Core.List.{List, [], _∷_}
-use Prim.Native.Nat.{ℕ, zero, suc, _+_, _*_, _<_, _≤_}
+use Prim.Native.Nat.{ℕ, zero, suc, _<_}
 use native.Mathlib.Omega.{arith}
 use lib.ListN.{length, getD}
 use borrow.Author.Tests.{eqb-true, ltb-true, lt-ltb}
 use Rattle.meaning.specs.Answers.{_<?_, _=?_, if_then_else_}
-use Rattle.meaning.specs.RuleFile.{Rule, IsRule, Move, noMove, to, asMove, letterMove, treeMove, treeStartMove, isMove, isState, none}
+use Rattle.meaning.specs.RuleFile.{Rule, IsRule, isMove, isState, none, noMove, to, asMove}
+use Rattle.meaning.specs.RuleFile.{letterMove, treeMove, treeStartMove}
 use Rattle.meaning.specs.SkipBook.{canEndTree, Reach, itself, byLetter, byTree, Still, Hold, noneOr, inStill, inHold, IsBook}
 use Rattle.meaning.proofs.Truths.{or-true-first, true-is-not-false}
 
@@ -62,19 +63,20 @@ module _ {R : Rule} (rule : IsRule R) where
 -- Full reading has only such states inside an open tree: the tree start is one, and so is where a letter move leads from
 -- one, or a tree move whose lower state is one too.
 module _ {R : Rule} (rule : IsRule R) where
-  pub start-ends-tree : {q : ℕ} → treeStartMove R ≡ to q → canEndTree R q ≡ true
+  ends-tree : {q : ℕ} → q < R .states → canEndTree R q ≡ true
   unfolding canEndTree
-  start-ends-tree {q} leads = lt-ltb q (R .states) (start-below rule leads)
+  ends-tree {q} low = lt-ltb q (R .states) low
+
+  pub start-ends-tree : {q : ℕ} → treeStartMove R ≡ to q → canEndTree R q ≡ true
+  start-ends-tree leads = ends-tree (start-below rule leads)
 
   pub letter-ends-tree : (p a : ℕ) {q : ℕ} → canEndTree R p ≡ true → a < R .letters → letterMove R p a ≡ to q
       → canEndTree R q ≡ true
-  unfolding canEndTree
-  letter-ends-tree p a {q} ends known leads = lt-ltb q (R .states) (letter-below rule p a leads)
+  letter-ends-tree p a ends known leads = ends-tree (letter-below rule p a leads)
 
   pub tree-ends-tree : (p lower : ℕ) {q : ℕ} → canEndTree R p ≡ true → canEndTree R lower ≡ true → treeMove R p lower ≡ to q
       → canEndTree R q ≡ true
-  unfolding canEndTree
-  tree-ends-tree p lower {q} ends below leads = lt-ltb q (R .states) (tree-below rule p lower leads)
+  tree-ends-tree p lower ends below leads = ends-tree (tree-below rule p lower leads)
 
 -- ---- Reach
 

@@ -15,9 +15,12 @@ freshRun R = record { reading = freshReading R; levels = [] }
 abbrev pub fullRun : Rule → ℕ → ℕ → List ℕ → Went Run
 fullRun R room ceiling es = feedBy (fullStep R room ceiling) (freshRun R) es
 
--- some events read with skipping by a book
+-- some events read with skipping by a book, from a run on and from the first event on
+abbrev pub skipFrom : Rule → List ℕ → ℕ → ℕ → Run → List ℕ → Went Run
+skipFrom R book room ceiling m es = feedBy (skipStep R book room ceiling) m es
+
 abbrev pub skipRun : Rule → List ℕ → ℕ → ℕ → List ℕ → Went Run
-skipRun R book room ceiling es = feedBy (skipStep R book room ceiling) (freshRun R) es
+skipRun R book room ceiling es = skipFrom R book room ceiling (freshRun R) es
 
 -- how a run ends when there is no further event
 abbrev pub endOfRun : Rule → Run → Answer Judged

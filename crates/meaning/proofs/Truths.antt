@@ -1,12 +1,17 @@
 -- Laws of truth values: what follows from a test that holds, or fails, by its cases.
 use mathlib.Core.Path.{_≡_, refl}
-use mathlib.Core.Bool.{Bool, true, false, not, _&&_, _||_}
+use mathlib.Core.Bool.{Bool, true, false, _&&_, _||_}
 use Prim.Native.Nat.{ℕ}
 use native.Mathlib.Omega.{arith}
 
 -- no test both holds and fails
 pub true-is-not-false : {b : Bool} {A : Type 0} → b ≡ true → b ≡ false → A
 true-is-not-false p q = let z : _≡_ {A = ℕ} 0 1 = cc in absurd (omega arith)
+
+-- a test that does not hold fails
+pub not-true-false : (b : Bool) → (b ≡ true → ⊥) → b ≡ false
+not-true-false true h = absurd (h refl)
+not-true-false false h = refl
 
 -- by the two cases of a test
 pub by-cases : {A : Type 0} (b : Bool) → (b ≡ true → A) → (b ≡ false → A) → A
@@ -18,9 +23,9 @@ pub or-true-first : (a b : Bool) → (a || b) ≡ true → b ≡ false → a ≡
 or-true-first true b e f = refl
 or-true-first false b e f = true-is-not-false e f
 
-pub or-true-second : (a b : Bool) → (a || b) ≡ true → a ≡ false → b ≡ true
-or-true-second true b e f = true-is-not-false refl f
-or-true-second false b e f = e
+pub or-true : (a b : Bool) → (a || b) ≡ true → a ≡ false → b ≡ true
+or-true true b e f = true-is-not-false refl f
+or-true false b e f = e
 
 pub or-true-left : {a : Bool} (b : Bool) → a ≡ true → (a || b) ≡ true
 or-true-left b e = rw e
@@ -32,3 +37,6 @@ or-true-right false e = e
 pub and-false-right : (a : Bool) {b : Bool} → b ≡ false → (a && b) ≡ false
 and-false-right true e = e
 and-false-right false e = refl
+
+pub both-false : {a b : Bool} → a ≡ false → b ≡ false → (a || b) ≡ false
+both-false p q = rw p q
