@@ -27,4 +27,5 @@ pub mod Rounds
 pub mod Bits
 pub mod BookMade
 pub mod Demand3Calls
+pub mod ExchangeCalls
 pub mod Exchange

@@ -1,0 +1,77 @@
+-- The exchange of demand 3 about the calls themselves: a well-nested part that feeding takes on a settled level, exchanged for any
+-- other well-nested run of known events within the event limit, leaves verdict, state and looks as they were. It holds with
+-- any book that is long enough, and so with the rule's own.
+use mathlib.Core.Path.{_≡_, refl, sym, ap, ap₂, _∙_}
+use mathlib.Core.Bool.{true, false, _&&_}
+use mathlib.Core.List.{List, _++_}
+use Prim.Native.Nat.{ℕ, zero, suc, _+_, _-_, _≤_}
+use native.Mathlib.Omega.{arith}
+use lib.ListN.{length, getD}
+use Rattle.meaning.specs.declared.Reading.{Reading}
+use Rattle.meaning.specs.declared.Level.{Level}
+use Rattle.meaning.specs.Answers.{given, _<?_}
+use Rattle.meaning.specs.RuleFile.{Rule, checkRule}
+use Rattle.meaning.specs.FullReading.{Run, Went, innermost, blank, freshReading, mostEvents}
+use Rattle.meaning.specs.Hedges.{wellNested}
+use Rattle.meaning.specs.SkipBook.{inHold}
+use Rattle.meaning.specs.Skipping.{held, settled}
+use Rattle.meaning.specs.Calls.{Judged, Stored, topOf, feedCall, finishCall}
+use Rattle.meaning.proofs.StoreView.{levelsOf, OneView}
+use Rattle.meaning.proofs.Runs.{skipRun, endOfRun}
+use Rattle.meaning.proofs.Exchange.{exchange}
+use Rattle.meaning.proofs.Demand3Calls.{ReadsTo, fed-is-run, finish-is-end}
+
+-- whether a level is settled is the same over the store and over its levels
+held-same : (book : List ℕ) (q depth : ℕ) (store : List Level)
+    → (0 <? depth && inHold book (getD store (depth - 1) blank .above) q)
+    ≡ (0 <? depth && inHold book (innermost (levelsOf depth store) .above) q)
+unfolding innermost levelsOf
+held-same book q zero store = refl
+held-same book q (suc d) store =
+    let down : suc d - 1 ≡ d = omega arith in
+    ap (λ (i : ℕ). 0 <? suc d && inHold book (getD store i blank .above) q) down
+
+settled-same : (book : List ℕ) (r : Reading) (store : List Level)
+    → settled book r (topOf r store) ≡ settled book r (innermost (levelsOf (r .depth) store))
+unfolding settled held topOf
+settled-same book r store = rw (held-same book (r .state) (r .depth) store)
+
+-- the other part read to the same verdict and end state, by as many looks
+pub record ReadsSame (file book : List ℕ) (store : List Level) (ceiling : ℕ) (events events′ : List ℕ) (R : Rule) (j : Judged) : Type 0 where
+  pub reads : ReadsTo file book store ceiling events′ R j
+  pub looks : feedCall file book ceiling (freshReading R) store events .last .reading .looks
+      ≡ feedCall file book ceiling (freshReading R) store events′ .last .reading .looks
+
+module _ (file book : List ℕ) (store : List Level) (ceiling : ℕ) {R : Rule}
+    (accepted : checkRule file ≡ given R) (long : R .states + 1 ≤ length book) where
+  abbrev fed : List ℕ → Went Stored
+  fed events = feedCall file book ceiling (freshReading R) store events
+
+  view : (events : List ℕ) → OneView (length store) (fed events) (skipRun R book (length store) ceiling events)
+  view events = fed-is-run file book store ceiling events accepted long
+
+  end : (events : List ℕ) → finishCall file book (fed events .last .reading) (fed events .last .store)
+      ≡ endOfRun R (skipRun R book (length store) ceiling events .last)
+  end events = finish-is-end file book store ceiling events accepted long
+
+  pub exchange-calls : (xs ys ys′ zs : List ℕ) {j : Judged} → fed xs .ended ≡ given tt
+      → settled book (fed xs .last .reading) (topOf (fed xs .last .reading) (fed xs .last .store)) ≡ true
+      → wellNested (R .letters) ys ≡ true → wellNested (R .letters) ys′ ≡ true → length (xs ++ (ys′ ++ zs)) ≤ mostEvents
+      → ReadsTo file book store ceiling (xs ++ (ys ++ zs)) R j
+      → ReadsSame file book store ceiling (xs ++ (ys ++ zs)) (xs ++ (ys′ ++ zs)) R j
+  exchange-calls xs ys ys′ zs taken settles nested nested′ limit reads =
+      let onLevels = sym (ap₂ (λ (r : Reading) (ls : List Level). settled book r (innermost ls)) (view xs .reading) (sym (view xs .levels)))
+      ∙ (sym (settled-same book (fed xs .last .reading) (fed xs .last .store)) ∙ settles)
+      in
+      let same =
+      exchange R book (length store) ceiling xs ys ys′ zs (sym (view xs .ended) ∙ taken) onLevels nested nested′ limit
+      (sym (view (xs ++ (ys ++ zs)) .ended) ∙ reads .takesAll) (sym (end (xs ++ (ys ++ zs))) ∙ reads .verdict)
+      in
+      record {
+        reads = record {
+          takesAll = view (xs ++ (ys′ ++ zs)) .ended ∙ same .takesAll;
+          verdict = end (xs ++ (ys′ ++ zs)) ∙ same .verdict;
+        };
+        looks = ap (λ (r : Reading). r .looks) (view (xs ++ (ys ++ zs)) .reading)
+            ∙ (same .looks ∙ sym (ap (λ (r : Reading). r .looks) (view (xs ++ (ys′ ++ zs)) .reading)));
+      }
