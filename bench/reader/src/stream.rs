@@ -171,11 +171,8 @@ pub fn report_by(
     }
     match finish(rule_file, book, fed.reading, &store) {
         End::Refused(refusal) => Report::Refused(refusal),
-        End::Verdict(verdict, state) => Report::Ended {
-            verdict,
-            state,
-            events: fed.reading.taken,
-            looks: fed.reading.looks,
-        },
+        End::Verdict(verdict, state) => {
+            Report::Ended { verdict, state, events: fed.reading.taken, looks: fed.reading.looks }
+        }
     }
 }

@@ -118,7 +118,10 @@ fn the_writer() {
     assert_eq!(write(3, 0, 0, 2, &[9; 6], &[9; 9], &[9; 2], 0), (refusal(3, 38), untouched));
     // Table bytes, before room.
     assert_eq!(write(3, 0, 0, 2, &[9; 6], &[9; 9], &[9; 3], 0), (refusal(4, 17), untouched));
-    assert_eq!(write(3, 0, 0, 2, letters, &[0, 255, 3, 0, 0, 0, 0, 0, 0], &[9; 3], 0), (refusal(4, 31), untouched));
+    assert_eq!(
+        write(3, 0, 0, 2, letters, &[0, 255, 3, 0, 0, 0, 0, 0, 0], &[9; 3], 0),
+        (refusal(4, 31), untouched)
+    );
     assert_eq!(write(3, 0, 0, 2, letters, trees, &[0, 2, 3], 0), (refusal(4, 46), untouched));
     assert_eq!(write(3, 0, 0, 2, letters, trees, &[0, 255, 3], 0), (refusal(4, 45), untouched));
     assert_eq!(write(3, 0, 0, 2, letters, trees, classes, 46), (refusal(14, 47), untouched));
