@@ -30,14 +30,18 @@ pub fn reach(rule: &Rule) -> Vec<BTreeSet<usize>> {
 }
 
 fn walk(edges: &[Vec<bool>], from: usize) -> BTreeSet<usize> {
-    let mut seen = BTreeSet::new();
+    let mut seen = vec![false; edges.len()];
+    seen[from] = true;
     let mut to_visit = vec![from];
     while let Some(q) = to_visit.pop() {
-        if seen.insert(q) {
-            to_visit.extend((0..edges.len()).filter(|&target| edges[q][target]));
+        for target in 0..edges.len() {
+            if edges[q][target] && !seen[target] {
+                seen[target] = true;
+                to_visit.push(target);
+            }
         }
     }
-    seen
+    (0..edges.len()).filter(|&q| seen[q]).collect()
 }
 
 impl Book {
