@@ -29,7 +29,11 @@ fn main() -> ExitCode {
     };
     let mut subject: Box<dyn Subject> = match linked::subject(name) {
         Some(subject) => subject,
-        None => Box::new(Program::new(name)),
+        None if Path::new(name).is_file() => Box::new(Program::new(name)),
+        None => {
+            eprintln!("compare: no program {name}");
+            return ExitCode::from(2);
+        }
     };
     match run(count, seed, subject.as_mut()) {
         Ok(()) => ExitCode::SUCCESS,
@@ -93,10 +97,10 @@ fn save(
     }
 }
 
-/// bench/disagreements: beside the crates if they are there, else from here.
+/// bench/disagreements: beside the directory this program was built in, or else
+/// in the current directory.
 fn disagreements() -> PathBuf {
-    if Path::new("bench").is_dir() {
-        return Path::new("bench").join("disagreements");
-    }
-    PathBuf::from("disagreements")
+    let built = std::env::current_exe().unwrap_or_default();
+    let bench = built.ancestors().find(|path| path.ends_with("target")).and_then(Path::parent);
+    bench.unwrap_or(Path::new(".")).join("disagreements")
 }

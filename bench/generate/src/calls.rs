@@ -78,7 +78,7 @@ pub fn random_call(rng: &mut Prng) -> Call {
 
 fn random_level(rng: &mut Prng, n: usize) -> Level {
     let state = if rng.chance(97) { rng.below(n) as u8 } else { rng.below(256) as u8 };
-    Level { state, place: rng.next() as u32 }
+    Level { state, place: rng.word() as u32 }
 }
 
 /// The maker's book, one of zeros, one with bits changed, or any words at all;
@@ -95,8 +95,8 @@ fn random_book(rng: &mut Prng, rule: &Rule, sets: &Book) -> Vec<u64> {
             }
             changed
         }
-        3 => (0..made.len()).map(|_| rng.next()).collect(),
-        4 => (0..made.len()).map(|_| rng.next() & rng.next() & rng.next()).collect(),
+        3 => (0..made.len()).map(|_| rng.word()).collect(),
+        4 => (0..made.len()).map(|_| rng.word() & rng.word() & rng.word()).collect(),
         _ => made,
     };
     if rng.chance(20) && rule.n < 64 {
@@ -107,7 +107,7 @@ fn random_book(rng: &mut Prng, rule: &Rule, sets: &Book) -> Vec<u64> {
         }
     }
     if rng.chance(15) {
-        book.push(rng.next());
+        book.push(rng.word());
     }
     if rng.chance(3) {
         book.truncate(rng.below(rule.n + 1));
@@ -144,7 +144,7 @@ fn random_reading(rng: &mut Prng, rule: &Rule, book: &[u64], store: &mut [Level]
         2 => nesting,
         _ => nesting + rng.below(1000) as u32,
     };
-    let looks = rng.next() as u32 % taken.saturating_add(1).max(1);
+    let looks = rng.word() as u32 % taken.saturating_add(1).max(1);
     let mut reading = Reading { state, depth: depth as u32, skip, taken, looks };
     if rng.chance(18) {
         match rng.below(6) {

@@ -7,13 +7,13 @@ impl Prng {
     /// own, so any one can be made again without the others.
     pub fn new(seed: u64, index: u64) -> Prng {
         let mut mix = Prng(seed);
-        let start = mix.next() ^ index.wrapping_mul(0xD134_2543_DE82_EF95);
+        let start = mix.word() ^ index.wrapping_mul(0xD134_2543_DE82_EF95);
         let mut prng = Prng(start);
-        prng.next();
+        prng.word();
         prng
     }
 
-    pub fn next(&mut self) -> u64 {
+    pub fn word(&mut self) -> u64 {
         self.0 = self.0.wrapping_add(0x9E37_79B9_7F4A_7C15);
         let mut z = self.0;
         z = (z ^ (z >> 30)).wrapping_mul(0xBF58_476D_1CE4_E5B9);
@@ -24,7 +24,7 @@ impl Prng {
     /// A number from 0 to `count`−1.
     pub fn below(&mut self, count: usize) -> usize {
         assert!(count > 0);
-        (self.next() % count as u64) as usize
+        (self.word() % count as u64) as usize
     }
 
     /// A number from `low` to `high`, both included.

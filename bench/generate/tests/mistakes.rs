@@ -10,7 +10,7 @@ use std::collections::BTreeSet;
 
 #[derive(Clone, Copy, Debug, PartialEq)]
 enum Mistake {
-    NoMistake,
+    Nothing,
     // In the records.
     LengthBeforeKind,
     BodyCutBeforeLength,
@@ -287,7 +287,7 @@ fn without_a_mistake_nothing_is_found() {
     let inputs = Inputs::new(11);
     for index in 0..3000 {
         let input = inputs.get(index);
-        assert_eq!(program(&input, NoMistake), check_program(&input), "input {index}");
+        assert_eq!(program(&input, Nothing), check_program(&input), "input {index}");
     }
 }
 

@@ -118,7 +118,7 @@ pub(crate) fn record(
     let length = u32::from_le_bytes([rest[0], rest[1], rest[2], rest[3]]) as usize;
     let as_required = match required {
         Required::Exactly(bytes) => length == bytes,
-        Required::Even => length % 2 == 0,
+        Required::Even => length.is_multiple_of(2),
     };
     if !as_required {
         return Err(Refusal::new(numbers::LENGTH, at as u64));
