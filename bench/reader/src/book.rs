@@ -1,0 +1,78 @@
+//! The skip book and its maker.
+
+use crate::numbers::{self, Refusal};
+use crate::rule::Rule;
+use std::collections::BTreeSet;
+
+/// The two kinds of sets in a book, as sets of states.
+#[derive(Clone, Debug, PartialEq, Eq)]
+pub struct Book {
+    /// The states q with Reach(q) = {q}.
+    pub still: BTreeSet<usize>,
+    /// `hold[u]`: the states p such that, for every p' in Reach(p), the tree
+    /// move of u and p' is none or u.
+    pub hold: Vec<BTreeSet<usize>>,
+}
+
+/// Reach(q) for each state q: the least set that holds q and every state got
+/// from a member by a letter move or by a tree move with any lower state of the
+/// rule. None adds nothing. Found by a walk, depth first, over the graph of
+/// single moves.
+pub fn reach(rule: &Rule) -> Vec<BTreeSet<usize>> {
+    let mut edges = vec![vec![false; rule.n]; rule.n];
+    for q in 0..rule.n {
+        let moves = rule.letter_moves[q].iter().chain(&rule.tree_moves[q]);
+        for target in moves.flatten() {
+            edges[q][*target] = true;
+        }
+    }
+    (0..rule.n).map(|q| walk(&edges, q)).collect()
+}
+
+fn walk(edges: &[Vec<bool>], from: usize) -> BTreeSet<usize> {
+    let mut seen = vec![false; edges.len()];
+    seen[from] = true;
+    let mut to_visit = vec![from];
+    while let Some(q) = to_visit.pop() {
+        for target in 0..edges.len() {
+            if edges[q][target] && !seen[target] {
+                seen[target] = true;
+                to_visit.push(target);
+            }
+        }
+    }
+    (0..edges.len()).filter(|&q| seen[q]).collect()
+}
+
+impl Book {
+    /// The sets of a rule.
+    pub fn of(rule: &Rule) -> Book {
+        let reach = reach(rule);
+        let still = (0..rule.n).filter(|&q| reach[q] == BTreeSet::from([q])).collect();
+        let keeps = |u: usize, p: usize| rule.tree_moves[u][p].is_none_or(|to| to == u);
+        let hold = (0..rule.n)
+            .map(|u| (0..rule.n).filter(|&p| reach[p].iter().all(|&low| keeps(u, low))).collect())
+            .collect();
+        Book { still, hold }
+    }
+
+    /// The book as n+1 words of 64 bits: word 0 is still, word 1+u is hold(u),
+    /// bit p for state p.
+    pub fn words(&self) -> Vec<u64> {
+        let word = |set: &BTreeSet<usize>| set.iter().map(|&p| 1u64 << p).sum();
+        std::iter::once(word(&self.still)).chain(self.hold.iter().map(word)).collect()
+    }
+}
+
+/// The maker: writes the book and returns how many states are still. In turn:
+/// rule, 6, 15 (never given, see [`numbers::ROUNDS`]). Words past n+1 stay; a
+/// refused call leaves the book untouched.
+pub fn make_book(rule_file: &[u8], book: &mut [u64]) -> Result<u32, Refusal> {
+    let rule = Rule::from_file(rule_file)?;
+    if book.len() < rule.n + 1 {
+        return Err(Refusal::new(numbers::BOOK_SHORT, 0));
+    }
+    let words = Book::of(&rule).words();
+    book[..words.len()].copy_from_slice(&words);
+    Ok(words[0].count_ones())
+}

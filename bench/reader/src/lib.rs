@@ -1,0 +1,30 @@
+//! A second reading of document 01, written from the paper alone.
+//!
+//! It serves only for comparison: plain safe code, tables in vectors, sets as
+//! sets. Fresh readings are answered in three ways that must agree:
+//!
+//! * [`stream`]: event by event, as "Calls and numbers" tells it;
+//! * [`hedge`]: the events are first made into a hedge in memory, and the hedge
+//!   is evaluated; a settled level is jumped over in one go;
+//! * [`positions`]: full reading as a table over the places, "passed over"
+//!   marked by its definition, and skipping predicted from the marks.
+
+#![forbid(unsafe_code)]
+
+pub mod book;
+pub mod check;
+pub mod hedge;
+pub mod numbers;
+pub mod positions;
+pub mod reading;
+pub mod rule;
+pub mod stream;
+pub mod writer;
+
+pub use book::{make_book, Book};
+pub use check::check_program;
+pub use numbers::Refusal;
+pub use reading::{End, Fed, Level, Outcome, Reading, Report, Verdict};
+pub use rule::{Class, Rule};
+pub use stream::{feed, finish, fresh, whole};
+pub use writer::write_rule;
