@@ -1,6 +1,6 @@
 -- Laws of bytes laid into an output: stores side by side lay their bytes, what is laid next to what is laid is laid in one, and
 -- what is laid at the front of a lent rest is laid in the whole at the rest's place.
-use mathlib.Core.Path.{_≡_, sym, ap, _∙_}
+use mathlib.Core.Path.{_≡_, refl, sym, ap, _∙_}
 use mathlib.Core.List.{List, [], _++_, append-assoc, append-nil}
 use Prim.Native.Nat.{ℕ, _+_, _-_, _≤_, _<_}
 use native.Mathlib.Nat.{zero-add}
@@ -9,7 +9,8 @@ use native.Mathlib.Omega.{arith}
 use lib.ListN.{length, getD, take, drop, set, length-append, length-take, length-drop, drop-of-length-le}
 use lib.Seq.{sets, sets-eq, drop-drop, take-at, drop-at, take-length, take-all, paste, paste-suc}
 use borrow.Rule.Slice.PartMut.{putMid, midOf, postOf}
-use Rattle.rule.specs.Laid.{laid}
+use Rattle.meaning.specs.RuleFile.{bytes2, bytes4, recordBytes}
+use Rattle.rule.specs.Laid.{laid, headerBytes}
 
 pub laid-sets : (bytes output : List ℕ) (place : ℕ) → place + length bytes ≤ length output → sets output place bytes ≡ laid place bytes output
 unfolding laid
@@ -53,6 +54,24 @@ laid-on place a b output h =
     in
     let past : n + length b ≡ place + length (a ++ b) = omega (arith, length-append a b) in
     rw (before, after) (rw past (simp append-assoc))
+
+-- the same of what the code holds between the two
+pub laid-next : (place next : ℕ) (a b output : List ℕ) {middle : List ℕ} → middle ≡ laid place a output
+    → next ≡ place + length a → next ≤ length output → laid next b middle ≡ laid place (a ++ b) output
+laid-next place next a b output e same h =
+    rw (e, same) (laid-on place a b output (omega arith))
+
+-- a record: its header laid down, and its body laid at the front of the rest, lent on
+pub laid-record : (place kind : ℕ) (body output : List ℕ) {headed rest : List ℕ} → headed ≡ laid place (headerBytes kind (length body)) output
+    → rest ≡ laid 0 body (midOf (place + 6) (length headed - (place + 6)) headed) → place + 6 ≤ length output
+    → putMid (place + 6) (length headed - (place + 6)) headed rest ≡ laid place (recordBytes kind body) output
+unfolding recordBytes headerBytes bytes4 bytes2
+laid-record place kind body output {headed} laidDown copied h =
+    let start : ℕ = place + 6 in
+    let long : length headed ≡ length output = ap length laidDown ∙ laid-length place (headerBytes kind (length body)) output h in
+    ap (putMid start (length headed - start) headed) copied
+    ∙ laid-lent start body headed (omega arith)
+    ∙ laid-next place start (headerBytes kind (length body)) body output laidDown refl h
 
 -- a turn of the loop that copies: its store is the next byte of the body
 pub copied-more : (body output : List ℕ) (i : ℕ) → i < length body → length body ≤ length output
