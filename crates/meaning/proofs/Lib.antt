@@ -2,3 +2,4 @@
 pub mod Answered
 pub mod Accepted
 pub mod Cases
+pub mod RoundTrip

@@ -47,10 +47,10 @@ laid-on place a b output h =
     let split : take place output ++ (a ++ rest) ≡ front ++ rest = sym (append-assoc (take place output) a rest) in
     let before : take n (take place output ++ (a ++ rest)) ≡ front = ap (take n) split ∙ take-at front rest n long in
     let after : drop (n + length b) (take place output ++ (a ++ rest)) ≡ drop (n + length b) output =
-        ap (drop (n + length b)) split
-        ∙ sym (drop-drop (length b) n (front ++ rest))
-        ∙ ap (drop (length b)) (drop-at front rest n long)
-        ∙ drop-drop (length b) n output
+    ap (drop (n + length b)) split
+    ∙ sym (drop-drop (length b) n (front ++ rest))
+    ∙ ap (drop (length b)) (drop-at front rest n long)
+    ∙ drop-drop (length b) n output
     in
     let past : n + length b ≡ place + length (a ++ b) = omega (arith, length-append a b) in
     rw (before, after) (rw past (simp append-assoc))

@@ -1,8 +1,15 @@
 // The writer: the numbers and tables of a rule, laid into a lent output as the bytes of its file.
-use crate::check::{refuse, table_check, Outcome, CLASSES};
-use crate::layout::{Layout, LETTER_RECORD, NUMBERS};
+use crate::Checked;
+use crate::Rule;
+use crate::Written;
+use crate::check::CLASSES;
+use crate::check::Outcome;
+use crate::check::refuse;
+use crate::check::table_check;
+use crate::layout::LETTER_RECORD;
+use crate::layout::Layout;
+use crate::layout::NUMBERS;
 use crate::tables::HEADER;
-use crate::{Checked, Rule, Written};
 use meaning::Refusal;
 ghost use mathlib.Core.Path.{_≡_};
 ghost use Prim.Native.Nat.{_+_, _≤_, _%_};
@@ -92,7 +99,13 @@ fn tables(output: &mut [u8], letter_moves: &[u8], tree_moves: &[u8], classes: &[
 }
 
 // The lengths of the tables that are given, and then their bytes; the places are those in the file to be.
-fn given_check(states: u8, letters: u16, letter_moves: &[u8], tree_moves: &[u8], classes: &[u8]) -> Outcome
+fn given_check(
+    states: u8,
+    letters: u16,
+    letter_moves: &[u8],
+    tree_moves: &[u8],
+    classes: &[u8],
+) -> Outcome
     ensures { λ r. ⌜ outcomeSays r ≡ givenCheck (ruleFrom states 0 0 letters (now («letter_moves» .entry)) (now («tree_moves» .entry)) (now (classes .entry))) ⌝ }
 {
     let at = Layout::of(states, letters);
@@ -114,4 +127,71 @@ fn given_check(states: u8, letters: u16, letter_moves: &[u8], tree_moves: &[u8],
         return trees_right;
     }
     table_check(classes, at.class_record + HEADER, CLASSES, false)
+}
+
+// The checks of the writer, in their order: the numbers, the tables, and the room.
+fn write_check(
+    states: u8,
+    initial: u8,
+    tree_start: u8,
+    letters: u16,
+    letter_moves: &[u8],
+    tree_moves: &[u8],
+    classes: &[u8],
+    room: usize,
+) -> Written
+    ensures { λ r. ⌜ writtenSays r ≡ writeCheck (ruleFrom states initial «tree_start» letters (now («letter_moves» .entry)) (now («tree_moves» .entry)) (now (classes .entry))) room ⌝ }
+{
+    if let Checked::Refused(refusal) = Rule::of_numbers(states, initial, tree_start, letters) {
+        return Written::Refused(refusal);
+    }
+    if let Outcome::Refused(refusal) = given_check(
+        states,
+        letters,
+        letter_moves,
+        tree_moves,
+        classes,
+    ) {
+        return Written::Refused(refusal);
+    }
+    let count = Layout::of(states, letters).count;
+    if room < count {
+        return Written::Refused(Refusal {
+            number: 14,
+            place: count,
+        });
+    }
+    Written::Bytes(count)
+}
+
+// The bytes of a rule's file, laid into the output: the count of them, or a refusal, all checks made before the first store.
+pub fn write(
+    states: u8,
+    initial: u8,
+    tree_start: u8,
+    letters: u16,
+    letter_moves: &[u8],
+    tree_moves: &[u8],
+    classes: &[u8],
+    output: &mut [u8],
+) -> Written
+    ensures { λ r. ⌜ writtenSays r ≡ writeCheck (ruleFrom states initial «tree_start» letters (now («letter_moves» .entry)) (now («tree_moves» .entry)) (now (classes .entry))) (length (now (output .entry))) ⌝ }
+    ensures { λ r. ⌜ now (output .exit) ≡ outputAfter (writeCheck (ruleFrom states initial «tree_start» letters (now («letter_moves» .entry)) (now («tree_moves» .entry)) (now (classes .entry))) (length (now (output .entry)))) (ruleFrom states initial «tree_start» letters (now («letter_moves» .entry)) (now («tree_moves» .entry)) (now (classes .entry))) (now (output .entry)) ⌝ }
+{
+    let answer = write_check(
+        states,
+        initial,
+        tree_start,
+        letters,
+        letter_moves,
+        tree_moves,
+        classes,
+        output.len(),
+    );
+    if let Written::Refused(_) = answer {
+        return answer;
+    }
+    numbers(output, states, initial, tree_start, letters);
+    tables(output, letter_moves, tree_moves, classes);
+    answer
 }

@@ -79,7 +79,7 @@ same-length c = search needs
 
 returns : tie.Need-returns
 unfolding headerBytes bytes4 bytes2
-returns c = 
+returns c =
     let a = c .before .before .before .before .before .before .before .args in
     six-stores (now (a .output)) (a .place) _ _ _ _ _ _
     ∙ rw (c .before .before .before .before .before .low .ensures, c .before .before .before .before .low2 .ensures, c .before .before .before .low3 .ensures, c .before .before .low4 .ensures, c .before .low5 .ensures, c .low6 .ensures)
