@@ -4,7 +4,7 @@ use mathlib.Core.Path.{_≡_, refl, sym, ap, ap₂, _∙_, subst}
 use mathlib.Core.Bool.{Bool, true, false, not}
 use mathlib.Core.List.{List, [], _∷_, _++_, append-assoc, append-nil}
 use Prim.Native.Nat.{ℕ, zero, suc, _+_, _*_, _/_, _%_, _-_, _≤_, _<_, suc-le-suc, zero-le}
-use native.Mathlib.Nat.{add-zero, zero-add, mul-le-mul, le-trans}
+use native.Mathlib.Nat.{add-zero, zero-add, mul-le-mul, div-div-eq-div-mul, div-add-mod', mod-eq-of-lt}
 use native.Mathlib.Omega.{arith}
 use lib.ListN.{length, getD, take, drop, length-append, length-take, length-drop}
 use lib.Seq.{getD-append-add, take-at, drop-at, length-take-le, drop-cons, take-add, drop-drop, take-all}
@@ -68,3 +68,206 @@ record-length kind body = omega arith
 pub bytes-length : (R : Rule) → IsRule R → length (ruleBytes R) ≡ fileLength (R .states) (R .letters)
 unfolding ruleBytes fileLength classRecord treeRecord letterRecord numbersBody bytes2
 bytes-length R p = simp (length-append, record-length) (omega (arith, p .letterLength, p .treeLength, p .classLength))
+
+-- ---- a rule that is written is read back
+
+-- a table whose entries are in range passes
+pub table-passes : (good : ℕ → Bool) (place : ℕ) (xs : List ℕ) → ((i : ℕ) → i < length xs → good (getD xs i 0) ≡ true)
+    → tableCheck good place xs ≡ given tt
+unfolding tableCheck
+table-passes good place [] all = refl
+table-passes good place (x ∷ xs) all =
+    refuse-passes 4 place _ (true-not-false (all zero (suc-le-suc zero-le)))
+    ∙ table-passes good (suc place) xs (λ i h. all (suc i) (suc-le-suc h))
+
+numbers-pass : (R : Rule) → IsRule R → numbersCheck R ≡ given tt
+unfolding numbersCheck
+numbers-pass R p =
+    refuse-passes 4 _ _ (true-not-false (p .statesIn))
+    ∙ refuse-passes 4 _ _ (true-not-false (p .initialIn))
+    ∙ refuse-passes 4 _ _ (true-not-false (p .treeStartIn))
+    ∙ refuse-passes 4 _ _ (true-not-false (p .lettersIn))
+
+-- a file all of whose checks pass is accepted
+passed-given : (file : List ℕ) → Passed file (ruleOf file) → checkRule file ≡ given (ruleOf file)
+unfolding checkRule
+passed-given file p =
+    andThen-passes _ (p .first)
+    ∙ andThen-passes _ (p .numbers)
+    ∙ andThen-passes _ (p .second)
+    ∙ andThen-passes _ (p .letterTable)
+    ∙ andThen-passes _ (p .third)
+    ∙ andThen-passes _ (p .treeTable)
+    ∙ andThen-passes _ (p .fourth)
+    ∙ andThen-passes _ (p .classTable)
+    ∙ refuse-passes 5 _ _ (le-ltb _ _ (p .nothingAfter))
+
+pub all-passed : (file : List ℕ) {R : Rule} → Passed file R → checkRule file ≡ given R
+all-passed file p =
+    passed-given file (subst (λ (S : Rule). Passed file S) (sym (p .rule)) p) ∙ ap given (p .rule)
+
+-- a record that has its kind, its length and its body passes
+pub record-passes : (file : List ℕ) (place kind size : ℕ) → number2 file (place + 4) ≡ kind → number4 file place ≡ size
+    → place + headerLength + size ≤ length file → recordCheck file place kind size ≡ given tt
+unfolding recordCheck
+record-passes file place kind size right long whole =
+    refuse-passes 1 (length file) _ (le-ltb (length file) (place + headerLength) (omega arith))
+    ∙ refuse-passes 2 (place + 4) _ (true-not-false (eq-eqb _ _ right))
+    ∙ refuse-passes 3 place _ (true-not-false (eq-eqb _ _ long))
+    ∙ refuse-passes 1 (length file) _ (le-ltb _ _ whole)
+
+-- what stands after some bytes is read at their length and on
+after-byte : (front xs : List ℕ) (i j : ℕ) → i ≡ length front + j → byteAt (front ++ xs) i ≡ byteAt xs j
+after-byte front xs i j e = ap (byteAt (front ++ xs)) e ∙ getD-append-add front xs j 0
+
+-- the number that four bytes stand for, where they are those of a number that fits
+bytes-of-number : (x : ℕ) → x < 4294967296 → x % 256 + 256 * (x / 256 % 256) + 65536 * (x / 65536 % 256) + 16777216 * (x / 16777216 % 256) ≡ x
+bytes-of-number x h =
+    let second : x / 256 / 256 ≡ x / 65536 = div-div-eq-div-mul x 256 256 in
+    let third : x / 65536 / 256 ≡ x / 16777216 = div-div-eq-div-mul x 65536 256 in
+    let last : x / 16777216 < 256 = omega arith in
+    omega (arith, div-add-mod' x 256, div-add-mod' (x / 256) 256, div-add-mod' (x / 65536) 256, mod-eq-of-lt last)
+
+-- a record that is written stands in the file as it is read
+module _ (front : List ℕ) (kind : ℕ) (body rest : List ℕ) (smallKind : kind < 65536) (smallBody : length body < 4294967296) where
+  kind-read : number2 (front ++ (recordBytes kind body ++ rest)) (length front + 4) ≡ kind
+  unfolding number2 recordBytes bytes4 bytes2
+  kind-read =
+      let xs : List ℕ = recordBytes kind body ++ rest in
+      omega (arith, after-byte front xs (length front + 4) 4 refl, after-byte front xs (length front + 4 + 1) 5 (omega arith))
+
+  length-read : number4 (front ++ (recordBytes kind body ++ rest)) (length front) ≡ length body
+  unfolding number4 recordBytes bytes4 bytes2
+  length-read =
+      let xs : List ℕ = recordBytes kind body ++ rest in
+      omega (
+        arith,
+        after-byte front xs (length front) 0 (omega arith),
+        after-byte front xs (length front + 1) 1 refl,
+        after-byte front xs (length front + 2) 2 refl,
+        after-byte front xs (length front + 3) 3 refl,
+        bytes-of-number (length body) smallBody,
+      )
+
+  body-read : part (front ++ (recordBytes kind body ++ rest)) (length front + headerLength) (length body) ≡ body
+  unfolding part recordBytes bytes4 bytes2
+  body-read =
+      let xs : List ℕ = recordBytes kind body ++ rest in
+      ap (take (length body)) (sym (drop-drop headerLength (length front) (front ++ xs)) ∙ ap (drop headerLength) (drop-at front xs (length front) refl))
+      ∙ take-at body rest (length body) refl
+
+  record-read : recordCheck (front ++ (recordBytes kind body ++ rest)) (length front) kind (length body) ≡ given tt
+  record-read =
+      record-passes _ (length front) kind (length body) kind-read length-read
+      (simp (length-append, record-length) (omega arith))
+
+-- the record, said of the file, its place and its size
+pub record Stands (file : List ℕ) (place kind : ℕ) (body : List ℕ) (size : ℕ) : Type 0 where
+  pub check : recordCheck file place kind size ≡ given tt
+  pub table : part file (place + headerLength) size ≡ body
+
+stands : (file front : List ℕ) (place kind : ℕ) (body : List ℕ) (size : ℕ) (rest : List ℕ) → file ≡ front ++ (recordBytes kind body ++ rest)
+    → length front ≡ place → length body ≡ size → kind < 65536 → size < 4294967296 → Stands file place kind body size
+stands file front place kind body size rest e here long smallKind smallBody =
+    let small : length body < 4294967296 = omega arith in
+    record {
+      check = cc (record-read front kind body rest smallKind small);
+      table = cc (body-read front kind body rest smallKind small);
+    }
+
+-- n is at most 64, k at most 256, and a product of two such is small
+states-most : (R : Rule) → IsRule R → R .states ≤ 64
+unfolding isStates
+states-most R p = leb-true _ _ (and-true (1 ≤? R .states) (R .states ≤? mostStates) (p .statesIn) .1)
+
+letters-most : (R : Rule) → IsRule R → R .letters ≤ 256
+unfolding isLetters
+letters-most R p = leb-true _ _ (and-true (1 ≤? R .letters) (R .letters ≤? mostLetters) (p .lettersIn) .1)
+
+-- the four records
+abbrev first : Rule → List ℕ
+first R = recordBytes 1 (numbersBody R)
+
+abbrev second : Rule → List ℕ
+second R = recordBytes 2 (R .letterMoves)
+
+abbrev third : Rule → List ℕ
+third R = recordBytes 3 (R .treeMoves)
+
+abbrev fourth : Rule → List ℕ
+fourth R = recordBytes 4 (R .classes)
+
+module _ (R : Rule) (p : IsRule R) where
+  letters-small : R .states * R .letters ≤ 16384
+  letters-small = mul-le-mul (states-most R p) (letters-most R p)
+
+  trees-small : R .states * R .states ≤ 4096
+  trees-small = mul-le-mul (states-most R p) (states-most R p)
+
+  first-stands : Stands (ruleBytes R) 0 1 (numbersBody R) numbersLength
+  unfolding ruleBytes numbersBody bytes2
+  first-stands = stands (ruleBytes R) [] 0 1 (numbersBody R) numbersLength _ refl refl refl (omega arith) (omega arith)
+
+  second-stands : Stands (ruleBytes R) letterRecord 2 (R .letterMoves) (R .states * R .letters)
+  unfolding ruleBytes letterRecord numbersBody bytes2
+  second-stands =
+      stands (ruleBytes R) (first R) letterRecord 2 (R .letterMoves) _ _ refl (record-length 1 (numbersBody R)) (p .letterLength) (omega arith) (omega (arith, letters-small))
+
+  third-stands : Stands (ruleBytes R) (treeRecord (R .states) (R .letters)) 3 (R .treeMoves) (R .states * R .states)
+  unfolding ruleBytes treeRecord letterRecord numbersBody bytes2
+  third-stands =
+      stands (ruleBytes R) (first R ++ second R) _ 3 (R .treeMoves) _ (fourth R)
+      (sym (append-assoc (first R) (second R) (third R ++ fourth R)))
+      (simp (length-append, record-length) (omega (arith, p .letterLength)))
+      (p .treeLength) (omega arith) (omega (arith, trees-small))
+
+  fourth-stands : Stands (ruleBytes R) (classRecord (R .states) (R .letters)) 4 (R .classes) (R .states)
+  unfolding ruleBytes classRecord treeRecord letterRecord numbersBody bytes2
+  fourth-stands =
+      stands (ruleBytes R) (first R ++ second R ++ third R) _ 4 (R .classes) _ []
+      (simp (append-assoc, append-nil))
+      (simp (length-append, record-length) (omega (arith, p .letterLength, p .treeLength)))
+      (p .classLength) (omega arith) (omega (arith, states-most R p))
+
+  rule-read : ruleOf (ruleBytes R) ≡ R
+  unfolding ruleOf ruleBytes recordBytes numbersBody bytes4 bytes2 number2
+  rule-read =
+      let file : List ℕ = ruleBytes R in
+      let n : ℕ = R .states in
+      let k : number2 file (headerLength + 3) ≡ R .letters = omega (arith, letters-most R p) in
+      let letters : part file (letterRecord + headerLength) (n * number2 file (headerLength + 3)) ≡ R .letterMoves =
+          ap (λ (k : ℕ). part file (letterRecord + headerLength) (n * k)) k ∙ second-stands .table
+      in
+      let trees : part file (treeRecord n (number2 file (headerLength + 3)) + headerLength) (n * n) ≡ R .treeMoves =
+          ap (λ (k : ℕ). part file (treeRecord n k + headerLength) (n * n)) k ∙ third-stands .table
+      in
+      let classes : part file (classRecord n (number2 file (headerLength + 3)) + headerLength) n ≡ R .classes =
+          ap (λ (k : ℕ). part file (classRecord n k + headerLength) n) k ∙ fourth-stands .table
+      in
+      λ i.
+      record {
+        states = n;
+        initial = R .initial;
+        treeStart = R .treeStart;
+        letters = k i;
+        letterMoves = letters i;
+        treeMoves = trees i;
+        classes = classes i;
+      }
+
+  -- what is written of a rule is accepted as that rule
+  pub written-reads-back : checkRule (ruleBytes R) ≡ given R
+  written-reads-back =
+      all-passed (ruleBytes R)
+      (record {
+        rule = rule-read;
+        first = first-stands .check;
+        numbers = numbers-pass R p;
+        second = second-stands .check;
+        letterTable = table-passes _ _ _ (λ i h. p .letterIn i (omega (arith, p .letterLength)));
+        third = third-stands .check;
+        treeTable = table-passes _ _ _ (λ i h. p .treeIn i (omega (arith, p .treeLength)));
+        fourth = fourth-stands .check;
+        classTable = table-passes _ _ _ (λ i h. p .classIn i (omega (arith, p .classLength)));
+        nothingAfter = omega (arith, bytes-length R p);
+      })
