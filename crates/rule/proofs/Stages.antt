@@ -1,11 +1,11 @@
 -- The rule check in the stages in which the code makes it: the first record, the four numbers, and the three tables.
-use mathlib.Core.Path.{_≡_, refl, sym, ap, _∙_}
+use mathlib.Core.Path.{_≡_, refl}
 use mathlib.Core.Bool.{Bool, true, false}
 use mathlib.Core.List.{List, []}
-use Prim.Native.Nat.{ℕ, _+_}
+use Prim.Native.Nat.{ℕ}
 use Rattle.meaning.specs.Answers.{Answer, given, refused, refuse_at_when_otherwise_, _andThen_, _giving_, _<?_}
 use Rattle.meaning.specs.RuleFile as format
-use Rattle.meaning.specs.RuleFile.{byteAt, number2, part, recordCheck, numbersCheck, tableCheck, isMove, isClass, isState, checkRule, ruleOf, letterRecord, headerLength, numbersLength, fileLength, writeCheck}
+use Rattle.meaning.specs.RuleFile.{byteAt, number2, recordCheck, numbersCheck, isMove, isClass, isState, checkRule, ruleOf, numbersLength, fileLength, writeCheck}
 use Rattle.rule.specs.declared.Rule.{Rule}
 use Rattle.rule.specs.Says.{numbersOf, checkAnswer}
 use Rattle.rule.specs.Checks.{inRange, ruleFrom, numbersAnswer, bodyCheck, tablesCheck, givenCheck}

@@ -4,7 +4,7 @@ use Prim.Native.Nat.{ℕ, _+_, _*_}
 use mathlib.Core.Bool.{Bool, true, false, not}
 use mathlib.Core.List.{List, []}
 use lib.ListN.{length}
-use Rattle.meaning.specs.Answers.{Answer, given, _andThen_, refuse_at_when_otherwise_, _<?_, _=?_}
+use Rattle.meaning.specs.Answers.{refuse_at_when_otherwise_, Answer, given, _andThen_, _<?_, _=?_}
 use Rattle.meaning.specs.RuleFile as format
 use Rattle.meaning.specs.RuleFile.{isState, isMove, numbersCheck, recordCheck, tableCheck, part, headerLength, letterRecord, treeRecord, classRecord, fileLength, classCount}
 use Rattle.meaning.specs.Calls.{refusalSays}

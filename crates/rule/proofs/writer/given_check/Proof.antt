@@ -2,12 +2,12 @@
 -- Assumes nothing.
 use mathlib.Core.Path.{_≡_, sym, ap, _∙_}
 use mathlib.Core.Bool.{true, false, not}
-use Prim.Native.Nat.{ℕ, _+_}
+use Prim.Native.Nat.{_+_}
 use native.Mathlib.Omega.{arith}
 use lib.ListN.{length}
 use denote.Ref.{now}
 use borrow.Author.Tests.{eq-eqb, ne-eqb}
-use Rattle.meaning.specs.Answers.{Answer, refuse_at_when_otherwise_, _andThen_, _=?_}
+use Rattle.meaning.specs.Answers.{refuse_at_when_otherwise_, _andThen_, _=?_}
 use Rattle.meaning.specs.RuleFile as format
 use Rattle.meaning.specs.RuleFile.{tableCheck, letterRecord, treeRecord, classRecord, fileLength, classCount, headerLength, numbersLength}
 use Rattle.meaning.proofs.Answered.{refuse-passes, refuse-stops}

@@ -1,6 +1,6 @@
 -- `rule::writer::tables` meets its contract: each record is laid right after the one before it.
 -- Assumes nothing.
-use mathlib.Core.Path.{_≡_, ap, _∙_}
+use mathlib.Core.Path.{ap, _∙_}
 use mathlib.Core.List.{List, _++_, append-assoc}
 use Prim.Native.Nat.{ℕ}
 use native.Mathlib.Omega.{arith}

@@ -1,6 +1,6 @@
 -- `rule::writer::write_check` meets its contract: it makes the writer's checks in their stages, each of which is proved.
 -- Assumes nothing.
-use mathlib.Core.Path.{_≡_, sym, ap, _∙_}
+use mathlib.Core.Path.{sym, ap, _∙_}
 use native.Mathlib.Omega.{arith}
 use denote.Ref.{now}
 use borrow.Author.Tests.{lt-ltb, le-ltb}
