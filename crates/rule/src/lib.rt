@@ -49,7 +49,12 @@ impl Rule {
     pub fn of_numbers(states: u8, initial: u8, tree_start: u8, letters: u16) -> Checked
         ensures { λ r. ⌜ checkedSays r ≡ numbersAnswer states initial «tree_start» letters ⌝ }
     {
-        if let Outcome::Refused(refusal) = check::numbers_check(states, initial, tree_start, letters) {
+        if let Outcome::Refused(refusal) = check::numbers_check(
+            states,
+            initial,
+            tree_start,
+            letters,
+        ) {
             return Checked::Refused(refusal);
         }
         Checked::Fine(Rule {
