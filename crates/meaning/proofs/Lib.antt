@@ -29,3 +29,4 @@ pub mod BookMade
 pub mod Demand3Calls
 pub mod ExchangeCalls
 pub mod Exchange
+pub mod RoundTrip

@@ -1,13 +1,14 @@
 -- The rule check in the stages in which the code makes it: the first record, the four numbers, and the three tables.
-use mathlib.Core.Path.{_≡_, refl, sym, ap, _∙_}
+use mathlib.Core.Path.{_≡_, refl}
 use mathlib.Core.Bool.{Bool, true, false}
 use mathlib.Core.List.{List, []}
-use Prim.Native.Nat.{ℕ, _+_}
-use Rattle.meaning.specs.Answers.{Answer, given, refused, refuse_at_when_otherwise_, _andThen_, _giving_}
-use Rattle.meaning.specs.RuleFile.{byteAt, number2, part, recordCheck, numbersCheck, tableCheck, isMove, isClass, isState, checkRule, ruleOf, letterRecord, headerLength, numbersLength}
+use Prim.Native.Nat.{ℕ}
+use Rattle.meaning.specs.Answers.{Answer, given, refused, refuse_at_when_otherwise_, _andThen_, _giving_, _<?_}
+use Rattle.meaning.specs.RuleFile as format
+use Rattle.meaning.specs.RuleFile.{byteAt, number2, recordCheck, numbersCheck, isMove, isClass, isState, checkRule, ruleOf, numbersLength, fileLength, writeCheck}
 use Rattle.rule.specs.declared.Rule.{Rule}
 use Rattle.rule.specs.Says.{numbersOf, checkAnswer}
-use Rattle.rule.specs.Checks.{inRange, ruleFrom, numbersAnswer, bodyCheck, tablesCheck}
+use Rattle.rule.specs.Checks.{inRange, ruleFrom, numbersAnswer, bodyCheck, tablesCheck, givenCheck}
 
 -- ---- what is done with the end of a row of checks
 
@@ -43,24 +44,24 @@ given-giving a f = refl
 
 -- ---- one test for the numbers of every table
 
-pub move-in-range : (n : ℕ) → isMove n ≡ inRange n true
+move-in-range : (n : ℕ) → isMove n ≡ inRange n true
 unfolding inRange
 move-in-range n = refl
 
-pub class-in-range : isClass ≡ inRange 3 false
+class-in-range : isClass ≡ inRange 3 false
 unfolding inRange isState isClass
 class-in-range = refl
 
 -- the four numbers do not go by the tables
-pub numbers-alone : (n initial treeStart k : ℕ) (letterMoves treeMoves classes : List ℕ)
-    → numbersCheck (ruleFrom n initial treeStart k letterMoves treeMoves classes) ≡ numbersCheck (ruleFrom n initial treeStart k [] [] [])
+numbers-alone : (R : format.Rule)
+    → numbersCheck R ≡ numbersCheck (ruleFrom (R .states) (R .initial) (R .treeStart) (R .letters) [] [] [])
 unfolding numbersCheck ruleFrom
-numbers-alone n initial treeStart k letterMoves treeMoves classes = refl
+numbers-alone R = refl
 
 numbers-of-file : (file : List ℕ)
     → numbersCheck (ruleOf file) ≡ numbersCheck (ruleFrom (byteAt file 6) (byteAt file 7) (byteAt file 8) (number2 file 9) [] [] [])
-unfolding numbersCheck ruleFrom ruleOf
-numbers-of-file file = refl
+unfolding ruleOf
+numbers-of-file file = numbers-alone (ruleOf file)
 
 -- ---- the stages
 
@@ -75,3 +76,18 @@ pub check-stages : (file : List ℕ)
 unfolding checkAnswer checkRule ruleOf numbersAnswer ruleFrom numbersOf afterNumbers tablesCheck bodyCheck
 check-stages file =
     simp (andThen-giving, refuse-giving, given-giving, andThen-andThen, refuse-andThen, given-andThen, move-in-range, class-in-range, numbers-of-file)
+
+-- what the writer has left to check once the numbers are in range
+unfoldable pub afterGiven : format.Rule → ℕ → Answer ℕ
+afterGiven R room =
+    let count : ℕ = fileLength (R .states) (R .letters) in
+    givenCheck R andThen
+    refuse 14 at count when room <? count otherwise
+    given count
+
+pub write-stages : (R : format.Rule) (room : ℕ)
+    → writeCheck R room
+    ≡ (numbersCheck (ruleFrom (R .states) (R .initial) (R .treeStart) (R .letters) [] [] []) andThen afterGiven R room)
+unfolding writeCheck afterGiven givenCheck
+write-stages R room =
+    simp (andThen-andThen, refuse-andThen, move-in-range, class-in-range, ← numbers-alone R)
