@@ -1,8 +1,75 @@
 // The check program's input: where the record of events stands, and the events in its bytes.
+use meaning::Refusal;
+use rule::Checked;
+use rule::Rule;
+use rule::check;
 ghost use mathlib.Core.Path.{_≡_};
 ghost use Prim.Native.Nat.{_+_, _*_};
+ghost use Rattle.meaning.specs.Answers.{refused};
 ghost use lib.ListN.{length};
+ghost use Rattle.meaning.specs.CheckProgram.{eventsHeader, frontCheck};
 ghost use Rattle.input.specs.Decoding.{eventCount, decoded};
+ghost use Rattle.input.specs.Says.{frontSays, headerAnswer};
+
+// Where the record of events starts, which is where the rule's file ends, and how many bytes its body has.
+pub struct EventsAt {
+    pub place: usize,
+    pub size: usize,
+}
+
+// What the front of an input says: where its events are, or the refusal of a bad record.
+pub enum Front {
+    Events(EventsAt),
+    Refused(Refusal),
+}
+
+// The bytes of a header, and the kind of the record that holds the events.
+const HEADER: usize = 6;
+
+const EVENTS: u16 = 5;
+
+fn refuse(number: u8, place: usize) -> Front
+    ensures { λ r. ⌜ frontSays r ≡ refused number place ⌝ }
+{
+    Front::Refused(Refusal { number, place })
+}
+
+// The header of the record of events.
+fn header_at(front: &[u8], place: usize) -> Front
+    ensures { λ r. ⌜ frontSays r ≡ headerAnswer (now (front .entry)) place ⌝ }
+{
+    let count = front.len();
+    if count < HEADER {
+        return refuse(1, count);
+    }
+    if count - HEADER < place {
+        return refuse(1, count);
+    }
+    if check::number2(front, place + 4) != EVENTS {
+        return refuse(2, place + 4);
+    }
+    let size = check::number4(front, place) as usize;
+    if size % 2 == 1 {
+        return refuse(3, place);
+    }
+    Front::Events(EventsAt { place, size })
+}
+
+// The front of an input, which holds the rule's records and a header: where the record of events stands. The rule check
+// refuses it by the bytes after the fourth record, and there the fifth begins.
+pub fn events_at(front: &[u8]) -> Front
+    ensures { λ r. ⌜ frontSays r ≡ frontCheck (now (front .entry)) ⌝ }
+{
+    match Rule::of_file(front) {
+        Checked::Fine(_) => refuse(1, front.len()),
+        Checked::Refused(refusal) => {
+            if refusal.number == 5 {
+                return header_at(front, refusal.place);
+            }
+            Front::Refused(refusal)
+        }
+    }
+}
 
 // How many events so many bytes hold, two bytes each, and so many places take.
 fn event_count(bytes: usize, places: usize) -> usize
