@@ -1,0 +1,111 @@
+-- Laws of words that stand for sets: the empty set, one member, the join of two, the join of one more, and the set without
+-- its lowest member. Each is a law of bits said of all 64.
+use mathlib.Core.Path.{_≡_, refl, sym, ap, ap₂, _∙_, subst}
+use mathlib.Core.Logic.{_⊎_, inl, inr, ⊎-elim}
+use mathlib.Core.Bool.{Bool, true, false, not, _&&_, _||_}
+use mathlib.Core.List.{List}
+use Prim.Native.Nat.{ℕ, zero, suc, _+_, _-_, _^_, _≤_, _<_}
+use native.Mathlib.Omega.{arith}
+use native.Mathlib.Numerals.{add-one}
+use lib.ListN.{length, getD}
+use lib.Bits.{bitAnd, bitOr}
+use lib.Count.{trailingZeros}
+use borrow.Author.Tests.{eqb-true, eqb-false}
+use Rattle.meaning.specs.Answers.{_=?_}
+use Rattle.meaning.specs.SkipBook.{anyBelow, bit, marked, wordOf}
+use Rattle.meaning.proofs.Answered.{and-true, both-true}
+use Rattle.meaning.proofs.Marks.{truth, same-truth, or-true, or-left, or-right, any-at, any-some, any-false}
+use Rattle.meaning.proofs.Bits.{bit-zero, bit-or, bit-only, bit-word, bit-past, word-of, lowest, cleared, cleared-less}
+use Rattle.book.specs.Sets.{StandsFor, joined}
+
+pub stands-empty : StandsFor 0 (λ p. false)
+unfolding StandsFor
+stands-empty p h = bit-zero p
+
+pub stands-only : (t : ℕ) → StandsFor (2 ^ t) (λ p. t =? p)
+unfolding StandsFor
+stands-only t p h = bit-only t p
+
+pub stands-or : (v w : ℕ) (f g : ℕ → Bool) → StandsFor v f → StandsFor w g → StandsFor (bitOr v w) (λ p. f p || g p)
+unfolding StandsFor
+stands-or v w f g a b p h = bit-or v w p ∙ ap₂ (λ (x y : Bool). x || y) (a p h) (b p h)
+
+pub stands-as : (w : ℕ) (f g : ℕ → Bool) → ((p : ℕ) → p < 64 → f p ≡ g p) → StandsFor w f → StandsFor w g
+unfolding StandsFor
+stands-as w f g same s p h = s p h ∙ same p h
+
+-- the states that one of the first i tests has, and those of the next test
+pub stands-more : (v w i : ℕ) (f : ℕ → ℕ → Bool) → StandsFor v (λ p. anyBelow i (λ j. f j p)) → StandsFor w (f i)
+    → StandsFor (bitOr v w) (λ p. anyBelow (i + 1) (λ j. f j p))
+unfolding anyBelow
+stands-more v w i f a b = rw add-one (stands-or v w _ _ a b)
+
+-- ---- the members one after the other
+
+-- what some member of a set has is what its lowest member has, or one of the others
+module _ (w : ℕ) (pos : 0 < w) (h : w < 2 ^ 64) (f : ℕ → Bool) where
+  members : Bool
+  members = anyBelow 64 (λ m. bit w m && f m)
+
+  others : Bool
+  others = anyBelow 64 (λ m. bit (bitAnd w (w - 1)) m && f m)
+
+  there : members ≡ true → (f (trailingZeros 64 w) || others) ≡ true
+  unfolding members others
+  there e =
+      let s = any-some 64 (λ m. bit w m && f m) e in
+      let m : ℕ = s .0 in
+      let b = and-true (bit w m) (f m) (s .2) in
+      ⊎-elim (λ same. or-left _ (ap f (eqb-true (trailingZeros 64 w) m same) ∙ b .1))
+      (λ no. or-right (f (trailingZeros 64 w)) (any-at 64 _ m (s .1)
+      (both-true (cleared 64 w pos h m ∙ both-true (b .0) (ap not no)) (b .1)))) (truth (trailingZeros 64 w =? m))
+
+  back : (f (trailingZeros 64 w) || others) ≡ true → members ≡ true
+  unfolding members others
+  back e =
+      let low = lowest 64 w pos h in
+      ⊎-elim (λ first. any-at 64 (λ m. bit w m && f m) (trailingZeros 64 w) (low .below) (both-true (low .member) first))
+      (λ other. let s = any-some 64 (λ m. bit (bitAnd w (w - 1)) m && f m) other in
+      let b = and-true (bit (bitAnd w (w - 1)) (s .0)) (f (s .0)) (s .2) in
+      any-at 64 (λ m. bit w m && f m) (s .0) (s .1) (both-true (and-true (bit w (s .0)) _ (sym (cleared 64 w pos h (s .0)) ∙ b .0) .0) (b .1)))
+      (or-true (f (trailingZeros 64 w)) others e)
+
+  pub lowest-first : anyBelow 64 (λ m. bit w m && f m) ≡ (f (trailingZeros 64 w) || anyBelow 64 (λ m. bit (bitAnd w (w - 1)) m && f m))
+  unfolding members others
+  lowest-first = same-truth members (f (trailingZeros 64 w) || others) there back
+
+or-assoc : (a b c : Bool) → (a || b || c) ≡ (a || (b || c))
+or-assoc true b c = refl
+or-assoc false b c = refl
+
+or-none : (a : Bool) {b : Bool} → b ≡ false → (a || b) ≡ a
+or-none true e = refl
+or-none false e = e
+
+-- ---- a turn that joins what the table has for the lowest member
+
+pub record Turn (table : List ℕ) (set all rest : ℕ) : Type 0 where
+  pub small : rest < 2 ^ 64
+  pub same : (p : ℕ) → p < 64 → (bit all p || anyBelow 64 (λ m. bit rest m && bit (getD table m 0) p)) ≡ joined table set p
+
+pub turn-first : (table : List ℕ) (set : ℕ) → set < 2 ^ 64 → Turn table set set set
+unfolding joined
+turn-first table set h = record { small = h; same = λ p l. refl }
+
+pub turn-next : (table : List ℕ) (set all rest : ℕ) → 0 < rest → Turn table set all rest
+    → Turn table set (bitOr all (getD table (trailingZeros 64 rest) 0)) (bitAnd rest (rest - 1))
+turn-next table set all rest pos t =
+    record {
+      small = omega (arith, cleared-less rest pos, t .small);
+      same = λ p l. let left : Bool = anyBelow 64 (λ m. bit (bitAnd rest (rest - 1)) m && bit (getD table m 0) p) in
+      ap (λ (b : Bool). b || left) (bit-or all (getD table (trailingZeros 64 rest) 0) p)
+      ∙ or-assoc (bit all p) (bit (getD table (trailingZeros 64 rest) 0) p) left
+      ∙ ap (λ (b : Bool). bit all p || b) (sym (lowest-first rest pos (t .small) (λ m. bit (getD table m 0) p)))
+      ∙ t .same p l;
+    }
+
+pub turn-last : (table : List ℕ) (set all rest : ℕ) → rest ≡ 0 → Turn table set all rest → StandsFor all (joined table set)
+unfolding StandsFor
+turn-last table set all rest e t p h =
+    sym (or-none (bit all p) (any-false 64 _ (λ m l. ap (λ (w : ℕ). bit w m && bit (getD table m 0) p) e ∙ ap (λ (b : Bool). b && bit (getD table m 0) p) (bit-zero m))))
+    ∙ t .same p h

@@ -1,0 +1,32 @@
+-- What the parts of the maker work on: words that stand for sets of states.
+use mathlib.Core.Path.{_≡_}
+use mathlib.Core.Bool.{Bool, true, false, not, _&&_, _||_}
+use mathlib.Core.List.{List}
+use Prim.Native.Nat.{ℕ, _<_}
+use lib.ListN.{getD}
+use Rattle.meaning.specs.Answers.{Answer, given}
+use Rattle.meaning.specs.RuleFile as format
+use Rattle.meaning.specs.RuleFile.{ruleOf, checkRule, letterMove, treeMove}
+use Rattle.meaning.specs.SkipBook.{anyBelow, goesTo, canEndTree, bit}
+use Rattle.rule.specs.declared.Rule.{Rule}
+use Rattle.rule.specs.Says.{numbersOf}
+
+-- the file passed the rule check, and these are its rule's numbers
+pub record Accepted (file : List ℕ) (rule : Rule) : Type 0 where
+  pub passed : checkRule file ≡ given (ruleOf file)
+  pub numbers : numbersOf (ruleOf file) ≡ rule
+
+-- a word of 64 bits stands for the states that pass a test
+unfoldable pub StandsFor : ℕ → (ℕ → Bool) → Type 0
+StandsFor word test = (p : ℕ) → p < 64 → bit word p ≡ test p
+
+-- the states of a set, and those that a table of sets has for a member
+unfoldable pub joined : List ℕ → ℕ → ℕ → Bool
+joined table set p = bit set p || anyBelow 64 (λ m. bit set m && bit (getD table m 0) p)
+
+-- the states one letter move away, and those one tree move away
+unfoldable pub byLetters : format.Rule → ℕ → ℕ → Bool
+byLetters R p p′ = anyBelow (R .letters) (λ a. goesTo p′ (letterMove R p a))
+
+unfoldable pub byTrees : format.Rule → ℕ → ℕ → Bool
+byTrees R p p′ = anyBelow (R .states) (λ lower. canEndTree R lower && goesTo p′ (treeMove R p lower))

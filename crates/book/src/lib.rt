@@ -1,0 +1,3 @@
+// The maker of skip books.
+mod sets;
+mod moves;
