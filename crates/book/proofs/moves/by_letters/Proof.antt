@@ -1,43 +1,48 @@
+-- `book::moves::by_letters` meets its contract. The loop's invariant: the word stands for the states that the letters walked so
+-- far lead to. Assumes nothing.
+use borrow.Author.Needs.{needs}
+use mathlib.Core.Path.{_≡_, ap, _∙_}
+use Prim.Native.Nat.{_≤_, _-_}
+use native.Mathlib.Omega.{arith}
+use Rattle.meaning.specs.RuleFile.{asMove, letterMove, ruleOf}
+use Rattle.book.proofs.Walked.{Walked, walk-first, walk-next, letter-is, letters-walked}
 use Rattle.book.proofs.moves.by_letters.Statement.{statement}
 use Rattle.book.proofs.moves.by_letters.Tie as tie
-use Rattle.book.proofs.moves.by_letters.Reads as reads
-use Rattle.book.proofs.moves.by_letters.Lts as lts
-use Rattle.book.proofs.moves.target.Reads as target-reads
-use Rattle.rule.proofs.tables.letter_move.Reads as letter-move-reads
 
 abbrev Inv-loop : tie.InvT-loop
-Inv-loop file rule state set₀ letter₀ set letter = ?
+Inv-loop file rule state set₀ letter₀ set letter = (letter ≤ rule .letters) × Walked (letterMove (ruleOf file) state) letter set
 
 abbrev μ-loop : tie.MeasureT-loop
-μ-loop file rule state set₀ letter₀ set letter = ?
+μ-loop file rule state set₀ letter₀ set letter = rule .letters - letter
 
--- src/moves.rt:29:5
 loop-holds : tie.Need-loop-holds Inv-loop μ-loop
-loop-holds c = ?
+loop-holds c = (omega arith, walk-first _)
 
--- src/moves.rt:30:23
 letter-move-requires : tie.Need-letter-move-requires Inv-loop μ-loop
-letter-move-requires c κs = ?
+letter-move-requires c κs = search needs
 
--- src/moves.rt:30:16
 target-requires : tie.Need-target-requires Inv-loop μ-loop
-target-requires c κs = ?
+target-requires c κs = search needs
 
--- src/moves.rt:31:9
 add-letter : tie.Need-add-letter Inv-loop μ-loop
-add-letter c = ?
+add-letter c = omega arith
 
--- src/moves.rt:29:5
 loop-less : tie.Need-loop-less Inv-loop μ-loop
-loop-less c = ?
+loop-less c = omega arith
 
--- src/moves.rt:29:5
 loop-again : tie.Need-loop-again Inv-loop μ-loop
-loop-again c = ?
+loop-again c =
+    let start = c .before .before .before .before .before .before in
+    let loop = c .before .before .before .before .loop in
+    let move = ap asMove (c .before .letter-move .ensures) ∙ letter-is (start .pre .0) (start .args .state) (loop .letter) (start .pre .1) (c .before .before .if1 .taken) in
+    (omega arith, walk-next _ (loop .letter) (loop .set) (c .target .result) (c .before .letter-move .result) move (loop .inv .1) (c .target .ensures))
 
--- src/moves.rt:22:1
 returns : tie.Need-returns Inv-loop μ-loop
-returns c = ?
+returns c =
+    let start = c .before .before .before .before in
+    let loop = c .before .before .loop in
+    let last : loop .letter ≡ start .args .rule .letters = omega arith in
+    letters-walked (start .pre .0) (start .args .state) (loop .set) (rw last at (loop .inv .1))
 
 pub by-letters-spec : {M : Type 1} → statement M
 by-letters-spec =

@@ -1,21 +1,18 @@
+-- `book::moves::target` meets its contract: a byte below 64 is the one member, and any other leads to no state below 64.
+-- Assumes nothing.
 use borrow.Author.Needs.{needs}
+use Rattle.book.proofs.Walked.{target-some, target-none}
 use Rattle.book.proofs.moves.target.Statement.{statement}
 use Rattle.book.proofs.moves.target.Tie as tie
-use Rattle.book.proofs.moves.target.Reads as reads
-use Rattle.book.proofs.moves.target.Lts as lts
-use Rattle.book.proofs.sets.only.Reads as only-reads
 
--- src/moves.rt:15:9
 only-requires : tie.Need-only-requires
 only-requires c κs = search needs
 
--- src/moves.rt:11:1
 returns : tie.Need-returns
-returns c = ?
+returns c = target-some (c .before .before .args .place) (c .only .result) (c .only .ensures)
 
--- src/moves.rt:11:1
 returns-2 : tie.Need-returns-2
-returns-2 c = ?
+returns-2 c = target-none (c .before .args .place) (c .if1 .left)
 
 pub target-spec : {M : Type 1} → statement M
 target-spec = tie.close (tie.spec only-requires returns returns-2)
