@@ -2,21 +2,22 @@
 -- its lowest member. Each is a law of bits said of all 64.
 use mathlib.Core.Path.{_≡_, refl, sym, ap, ap₂, _∙_, subst}
 use mathlib.Core.Logic.{_⊎_, inl, inr, ⊎-elim}
-use mathlib.Core.Bool.{Bool, true, false, not, _&&_, _||_}
+use mathlib.Core.Bool.{Bool, true, false, not, _&&_, _||_, false≢true}
 use mathlib.Core.List.{List}
 use Prim.Native.Nat.{ℕ, zero, suc, _+_, _-_, _^_, _≤_, _<_}
+use native.Mathlib.Nat.{not-suc-le-zero}
 use native.Mathlib.Omega.{arith}
 use native.Mathlib.Numerals.{add-one}
 use lib.ListN.{length, getD}
 use lib.Bits.{bitAnd, bitOr}
 use lib.Count.{trailingZeros}
-use borrow.Author.Tests.{eqb-true, eqb-false}
-use Rattle.meaning.specs.Answers.{_=?_}
+use borrow.Author.Tests.{ltb-true, lt-ltb, eqb-true, eq-eqb}
+use Rattle.meaning.specs.Answers.{_=?_, _<?_}
 use Rattle.meaning.specs.SkipBook.{anyBelow, bit, marked, wordOf}
 use Rattle.meaning.proofs.Answered.{and-true, both-true}
-use Rattle.meaning.proofs.Marks.{truth, same-truth, or-true, or-left, or-right, any-at, any-some, any-false}
+use Rattle.meaning.proofs.Marks.{truth, same-truth, absurd-truth, or-true, or-left, or-right, last-or-below, any-at, any-some, any-false}
 use Rattle.meaning.proofs.Bits.{bit-zero, bit-or, bit-only, bit-word, bit-past, word-of, lowest, cleared, cleared-less}
-use Rattle.book.specs.Sets.{StandsFor, joined}
+use Rattle.book.specs.Sets.{StandsFor, joined, firstOf}
 
 pub stands-empty : StandsFor 0 (λ p. false)
 unfolding StandsFor
@@ -39,6 +40,39 @@ pub stands-more : (v w i : ℕ) (f : ℕ → ℕ → Bool) → StandsFor v (λ p
     → StandsFor (bitOr v w) (λ p. anyBelow (i + 1) (λ j. f j p))
 unfolding anyBelow
 stands-more v w i f a b = rw add-one (stands-or v w _ _ a b)
+
+-- ---- the first states that pass a test
+
+pub first-true : (n : ℕ) (test : ℕ → Bool) (p : ℕ) → firstOf n test p ≡ true → (p < n) × (test p ≡ true)
+unfolding firstOf
+first-true n test p e = let b = and-true (p <? n) (test p) e in (ltb-true p n (b .0), b .1)
+
+pub first-in : (n : ℕ) (test : ℕ → Bool) (p : ℕ) → p < n → test p ≡ true → firstOf n test p ≡ true
+unfolding firstOf
+first-in n test p h e = both-true (lt-ltb p n h) e
+
+pub gather-first : (test : ℕ → Bool) → StandsFor 0 (firstOf 0 test)
+gather-first test =
+    stands-as 0 _ _ (λ p h. same-truth false (firstOf 0 test p) (λ f. absurd (false≢true f))
+    (λ t. absurd (not-suc-le-zero (first-true 0 test p t .0)))) stands-empty
+
+pub gather-yes : (set w i : ℕ) (test : ℕ → Bool) → test i ≡ true → w ≡ 2 ^ i → StandsFor set (firstOf i test)
+    → StandsFor (bitOr set w) (firstOf (i + 1) test)
+gather-yes set w i test member e s =
+    rw e (stands-as (bitOr set (2 ^ i)) _ _ (λ p h. same-truth (firstOf i test p || i =? p) (firstOf (i + 1) test p)
+    (λ t. ⊎-elim (λ f. let b = first-true i test p f in first-in (i + 1) test p (omega arith) (b .1))
+    (λ same. let q = eqb-true i p same in first-in (i + 1) test p (omega arith) (ap test (sym q) ∙ member)) (or-true (firstOf i test p) (i =? p) t))
+    (λ t. let b = first-true (i + 1) test p t in
+    ⊎-elim (λ same. or-right (firstOf i test p) (eq-eqb i p (sym same))) (λ less. or-left (i =? p) (first-in i test p less (b .1)))
+    (last-or-below (rw add-one at (b .0)))))
+    (stands-or set (2 ^ i) (firstOf i test) (λ p. i =? p) s (stands-only i)))
+
+pub gather-no : (set i : ℕ) (test : ℕ → Bool) → test i ≡ false → StandsFor set (firstOf i test) → StandsFor set (firstOf (i + 1) test)
+gather-no set i test out s =
+    stands-as set _ _ (λ p h. same-truth (firstOf i test p) (firstOf (i + 1) test p)
+    (λ t. let b = first-true i test p t in first-in (i + 1) test p (omega arith) (b .1))
+    (λ t. let b = first-true (i + 1) test p t in
+    ⊎-elim (λ same. absurd-truth (ap test (sym same) ∙ b .1) out) (λ less. first-in i test p less (b .1)) (last-or-below (rw add-one at (b .0))))) s
 
 -- ---- the members one after the other
 

@@ -11,15 +11,16 @@ use borrow.Author.Tests.{eqb-true, ne-eqb}
 use Rattle.meaning.specs.Answers.{_=?_}
 use Rattle.meaning.specs.RuleFile as format
 use Rattle.meaning.specs.RuleFile.{Move, to, noMove, none, asMove, letterMove, treeMove, ruleOf}
-use Rattle.meaning.specs.SkipBook.{anyBelow, goesTo, canEndTree}
+use Rattle.meaning.specs.SkipBook.{anyBelow, goesTo, noneOr, canEndTree}
 use Rattle.meaning.proofs.Answered.{if-true, if-false}
 use Rattle.meaning.proofs.Marks.{truth, any-same}
-use Rattle.meaning.proofs.Rounds.{counts}
+use Rattle.meaning.proofs.Rounds.{counts, most-states}
+use Rattle.meaning.proofs.Accepted.{accepted-is-rule}
 use Rattle.rule.specs.declared.Rule.{Rule}
 use Rattle.rule.specs.Says.{numbersOf}
 use Rattle.rule.specs.Tables.{letterByte, treeByte}
 use Rattle.rule.proofs.Looks.{letter-look, tree-look}
-use Rattle.book.specs.Sets.{StandsFor, Accepted, byLetters, byTrees}
+use Rattle.book.specs.Sets.{StandsFor, Accepted, byLetters, byTrees, firstOf, changing}
 use Rattle.book.proofs.Standing.{stands-as, stands-only, stands-empty, stands-more}
 
 -- ---- a byte of a table, and the state that it leads to
@@ -36,6 +37,15 @@ target-some x w e = rw e (stands-as (2 ^ x) _ _ (λ p h. sym (goes-as x p h)) (s
 
 pub target-none : (x : ℕ) → 64 ≤ x → StandsFor 0 (λ p. goesTo p (asMove x))
 target-none x l = stands-as 0 _ _ (λ p h. sym (goes-as x p h ∙ ne-eqb x p (λ e. omega arith))) stands-empty
+
+-- a byte that is a move to another state than u
+pub changed-some : (x u : ℕ) → (x =? none) ≡ false → not (x =? u) ≡ not (noneOr u (asMove x))
+unfolding asMove noneOr
+changed-some x u f = sym (ap (λ m. not (noneOr u m)) (if-false noMove (to x) f))
+
+pub changed-none : (x u : ℕ) → (x =? none) ≡ true → not (x =? none) ≡ not (noneOr u (asMove x))
+unfolding asMove noneOr
+changed-none x u t = ap not t ∙ sym (ap (λ m. not (noneOr u m)) (if-true noMove (to x) t))
 
 -- ---- the first i moves of a row
 
@@ -87,3 +97,14 @@ module _ {file : List ℕ} {rule : Rule} (ok : Accepted file rule) where
       let R : format.Rule = ruleOf file in
       stands-as set _ _ (λ p h. ap (λ (n : ℕ). anyBelow n (λ l. goesTo p (treeMove R q l))) (sym states-are)
       ∙ any-same (R .states) _ _ (λ l below. sym (ap (λ (b : Bool). b && goesTo p (treeMove R q l)) (counts R l .1 below)))) s
+
+  -- all lower states gathered
+  pub changes-gathered : (u set : ℕ) → StandsFor set (firstOf (rule .states) (λ p. not (noneOr u (treeMove (ruleOf file) u p))))
+      → StandsFor set (changing (ruleOf file) u)
+  unfolding changing
+  changes-gathered u set s =
+      stands-as set _ _ (λ p h. ap (λ (n : ℕ). firstOf n (λ l. not (noneOr u (treeMove (ruleOf file) u l))) p) (sym states-are)) s
+
+  -- a rule has at most 64 states
+  pub few-states : rule .states ≤ 64
+  few-states = omega (arith, most-states (accepted-is-rule file (ok .passed)), states-are)

@@ -4,10 +4,10 @@ use mathlib.Core.Bool.{Bool, true, false, not, _&&_, _||_}
 use mathlib.Core.List.{List}
 use Prim.Native.Nat.{ℕ, _<_}
 use lib.ListN.{getD}
-use Rattle.meaning.specs.Answers.{Answer, given}
+use Rattle.meaning.specs.Answers.{Answer, given, _<?_}
 use Rattle.meaning.specs.RuleFile as format
 use Rattle.meaning.specs.RuleFile.{ruleOf, checkRule, letterMove, treeMove}
-use Rattle.meaning.specs.SkipBook.{anyBelow, goesTo, canEndTree, bit}
+use Rattle.meaning.specs.SkipBook.{anyBelow, goesTo, canEndTree, noneOr, oneMove, bit}
 use Rattle.rule.specs.declared.Rule.{Rule}
 use Rattle.rule.specs.Says.{numbersOf}
 
@@ -30,3 +30,15 @@ byLetters R p p′ = anyBelow (R .letters) (λ a. goesTo p′ (letterMove R p a)
 
 unfoldable pub byTrees : format.Rule → ℕ → ℕ → Bool
 byTrees R p p′ = anyBelow (R .states) (λ lower. canEndTree R lower && goesTo p′ (treeMove R p lower))
+
+-- a table that has for each state the states one move away from it
+unfoldable pub Moves : format.Rule → List ℕ → Type 0
+Moves R table = (q : ℕ) → q < R .states → StandsFor (getD table q 0) (oneMove R q)
+
+-- the first n states, as far as they pass a test
+unfoldable pub firstOf : ℕ → (ℕ → Bool) → ℕ → Bool
+firstOf n test p = p <? n && test p
+
+-- the lower states whose tree move with u is neither none nor u
+unfoldable pub changing : format.Rule → ℕ → ℕ → Bool
+changing R u = firstOf (R .states) (λ p. not (noneOr u (treeMove R u p)))

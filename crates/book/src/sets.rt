@@ -1,9 +1,8 @@
 // Sets of states as words: bit p for state p.
 ghost use mathlib.Core.Path.{_≡_};
-ghost use Prim.Native.Nat.{_<_, _^_};
-ghost use Rattle.book.specs.Sets.{joined};
-ghost use lib.ListN.{getD};
-ghost use Rattle.book.specs.Sets.{StandsFor};
+ghost use mathlib.Core.Bool.{Bool};
+ghost use Prim.Native.Nat.{ℕ, _+_, _<_, _^_};
+ghost use Rattle.book.specs.Sets.{StandsFor, joined, firstOf};
 
 // The set with one member.
 pub fn only(state: u8) -> u64
@@ -11,6 +10,18 @@ pub fn only(state: u8) -> u64
     ensures { λ r. ⌜ r ≡ 2 ^ state ⌝ }
 {
     1 << state
+}
+
+// One turn of gathering the states that pass a test: a set of those below a state, and that state if it is a member.
+pub fn with(set: u64, state: u8, member: bool) -> u64
+    requires { ⌜ state < 64 ⌝ }
+    ensures { λ r. ⌜ ((test : ℕ → Bool) → test state ≡ member → StandsFor set (firstOf state test) → StandsFor r (firstOf (state + 1) test)) ⌝ }
+{
+    if member {
+        set | only(state)
+    } else {
+        set
+    }
 }
 
 // The set, and with it all states that the table has for a member.
