@@ -8,7 +8,9 @@ use Prim.Native.Nat.{ℕ, zero, suc, _+_, _-_, _^_, _≤_, _<_}
 use native.Mathlib.Nat.{not-suc-le-zero}
 use native.Mathlib.Omega.{arith}
 use native.Mathlib.Numerals.{add-one}
-use lib.ListN.{length, getD}
+use lib.ListN.{length, getD, set, length-set}
+use lib.Seq.{getD-set-same, getD-set-other}
+use borrow.Author.Count.{below-none, below-more}
 use lib.Bits.{bitAnd, bitOr}
 use lib.Count.{trailingZeros}
 use borrow.Author.Tests.{ltb-true, lt-ltb, eqb-true, eq-eqb}
@@ -143,3 +145,22 @@ unfolding StandsFor
 turn-last table set all rest e t p h =
     sym (or-none (bit all p) (any-false 64 _ (λ m l. ap (λ (w : ℕ). bit w m && bit (getD table m 0) p) e ∙ ap (λ (b : Bool). b && bit (getD table m 0) p) (bit-zero m))))
     ∙ t .same p h
+
+-- ---- a table of 64 words that is filled from the front
+
+pub record Filled (P : ℕ → ℕ → Type 0) (i : ℕ) (table : List ℕ) : Type 0 where
+  pub long : length table ≡ 64
+  pub each : (q : ℕ) → q < i → P q (getD table q 0)
+
+pub filled-first : (P : ℕ → ℕ → Type 0) (table : List ℕ) → length table ≡ 64 → Filled P 0 table
+filled-first P table e = record { long = e; each = below-none (λ q. P q (getD table q 0)) }
+
+pub filled-next : (P : ℕ → ℕ → Type 0) (i w : ℕ) (table : List ℕ) → i < 64 → Filled P i table → P i w → Filled P (i + 1) (set table i w)
+filled-next P i w table h f here =
+    record {
+      long = length-set table i w ∙ f .long;
+      each =
+          below-more (λ q. P q (getD (set table i w) q 0)) i
+          (λ q l. subst (P q) (sym (getD-set-other table i q w 0 (λ e. omega arith))) (f .each q l))
+          (subst (P i) (sym (getD-set-same table i w 0 (rw (f .long) h))) here);
+    }

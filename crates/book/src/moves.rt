@@ -1,6 +1,6 @@
 // The moves of a rule as sets of states: each table is walked once.
 use rule::Rule;
-use crate::sets::{only, with};
+use crate::sets::{no_sets, only, with};
 ghost use mathlib.Core.Path.{_≡_};
 ghost use Prim.Native.Nat.{_<_};
 ghost use Rattle.meaning.specs.RuleFile.{asMove, ruleOf};
@@ -64,7 +64,7 @@ pub fn all_moves(file: &[u8], rule: Rule) -> [u64; 64]
     requires { ⌜ Accepted (now file) rule ⌝ }
     ensures { λ r. ⌜ Moves (ruleOf (now (file .entry))) r ⌝ }
 {
-    let mut table = [0u64; 64];
+    let mut table = no_sets();
     let mut state: u8 = 0;
     while state < rule.states {
         table[state as usize] = moves_from(file, rule, state);

@@ -2,6 +2,7 @@
 ghost use mathlib.Core.Path.{_≡_};
 ghost use mathlib.Core.Bool.{Bool};
 ghost use Prim.Native.Nat.{ℕ, _+_, _<_, _^_};
+ghost use lib.ListN.{length};
 ghost use Rattle.book.specs.Sets.{StandsFor, joined, firstOf};
 
 // The set with one member.
@@ -10,6 +11,13 @@ pub fn only(state: u8) -> u64
     ensures { λ r. ⌜ r ≡ 2 ^ state ⌝ }
 {
     1 << state
+}
+
+// A table with an empty set for each state.
+pub fn no_sets() -> [u64; 64]
+    ensures { λ r. ⌜ length r ≡ 64 ⌝ }
+{
+    [0; 64]
 }
 
 // One turn of gathering the states that pass a test: a set of those below a state, and that state if it is a member.
