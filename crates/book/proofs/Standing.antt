@@ -8,17 +8,17 @@ use Prim.Native.Nat.{ℕ, zero, suc, _+_, _-_, _^_, _≤_, _<_}
 use native.Mathlib.Nat.{not-suc-le-zero}
 use native.Mathlib.Omega.{arith}
 use native.Mathlib.Numerals.{add-one}
-use lib.ListN.{length, getD, set, length-set}
+use lib.ListN.{length, getD, set, length-set, List·getD-eq-default}
 use lib.Seq.{getD-set-same, getD-set-other}
 use borrow.Author.Count.{below-none, below-more}
 use lib.Bits.{bitAnd, bitOr}
 use lib.Count.{trailingZeros}
-use borrow.Author.Tests.{ltb-true, lt-ltb, eqb-true, eq-eqb}
+use borrow.Author.Tests.{ltb-true, ltb-false, lt-ltb, eqb-true, eq-eqb}
 use Rattle.meaning.specs.Answers.{_=?_, _<?_}
 use Rattle.meaning.specs.SkipBook.{anyBelow, bit, marked, wordOf}
 use Rattle.meaning.proofs.Answered.{and-true, both-true}
 use Rattle.meaning.proofs.Marks.{truth, same-truth, absurd-truth, or-true, or-left, or-right, last-or-below, any-at, any-some, any-false}
-use Rattle.meaning.proofs.Bits.{bit-zero, bit-or, bit-only, bit-word, bit-past, word-of, lowest, cleared, cleared-less}
+use Rattle.meaning.proofs.Bits.{bit-zero, bit-or, bit-only, bit-past, word-of, lowest, cleared, cleared-less}
 use Rattle.book.specs.Sets.{StandsFor, joined, firstOf}
 
 pub stands-empty : StandsFor 0 (λ p. false)
@@ -36,6 +36,15 @@ stands-or v w f g a b p h = bit-or v w p ∙ ap₂ (λ (x y : Bool). x || y) (a 
 pub stands-as : (w : ℕ) (f g : ℕ → Bool) → ((p : ℕ) → p < 64 → f p ≡ g p) → StandsFor w f → StandsFor w g
 unfolding StandsFor
 stands-as w f g same s p h = s p h ∙ same p h
+
+-- a word that stands for what is marked is the word of the marks
+pub stands-word : (w : ℕ) (marks : List Bool) → w < 2 ^ 64 → length marks ≤ 64 → StandsFor w (marked marks) → w ≡ wordOf marks
+unfolding StandsFor marked
+stands-word w marks small short s =
+    word-of w marks (λ p. ⊎-elim (λ t. s p (ltb-true p 64 t))
+    (λ f. let l : 64 ≤ p = ltb-false p 64 f in
+    let m : length marks ≤ p = omega arith in
+    bit-past 64 w p small l ∙ sym (List·getD-eq-default marks false m)) (truth (p <? 64)))
 
 -- the states that one of the first i tests has, and those of the next test
 pub stands-more : (v w i : ℕ) (f : ℕ → ℕ → Bool) → StandsFor v (λ p. anyBelow i (λ j. f j p)) → StandsFor w (f i)

@@ -7,7 +7,7 @@ use lib.ListN.{getD}
 use Rattle.meaning.specs.Answers.{Answer, given, _<?_}
 use Rattle.meaning.specs.RuleFile as format
 use Rattle.meaning.specs.RuleFile.{ruleOf, checkRule, letterMove, treeMove}
-use Rattle.meaning.specs.SkipBook.{anyBelow, goesTo, canEndTree, noneOr, oneMove, bit}
+use Rattle.meaning.specs.SkipBook.{anyBelow, goesTo, canEndTree, noneOr, oneMove, reachedIn, wordOf, bit}
 use Rattle.rule.specs.declared.Rule.{Rule}
 use Rattle.rule.specs.Says.{numbersOf}
 
@@ -42,3 +42,10 @@ firstOf n test p = p <? n && test p
 -- the lower states whose tree move with u is neither none nor u
 unfoldable pub changing : format.Rule → ℕ → ℕ → Bool
 changing R u = firstOf (R .states) (λ p. not (noneOr u (treeMove R u p)))
+
+-- the word of the states reached from q in so many rounds, and a table of these words
+unfoldable pub reachedWord : format.Rule → ℕ → ℕ → ℕ
+reachedWord R i q = wordOf (reachedIn R i q)
+
+unfoldable pub Reached : format.Rule → ℕ → List ℕ → Type 0
+Reached R i table = (q : ℕ) → q < R .states → getD table q 0 ≡ reachedWord R i q

@@ -1,3 +1,4 @@
 // The maker of skip books.
 mod sets;
 mod moves;
+mod rounds;
