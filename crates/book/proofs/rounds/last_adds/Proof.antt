@@ -6,6 +6,7 @@ use mathlib.Core.Path.{sym}
 use mathlib.Core.Bool.{true, false}
 use Prim.Native.Nat.{ℕ, _≤_, _<_, _-_}
 use native.Mathlib.Omega.{arith}
+use denote.Ref.{now}
 use Rattle.meaning.specs.SkipBook.{roundsUsedUp}
 use Rattle.meaning.proofs.Marks.{any-at, any-false}
 use Rattle.book.proofs.InRounds.{LastAdds, last-same, last-other}
@@ -35,7 +36,12 @@ with-members-requires c κs = search needs
 
 returns : tie.Need-returns Inv-loop μ-loop
 unfolding roundsUsedUp
-returns c R rule good size reached = ?
+returns c R rule good size reached =
+    let loop = c .before .before .before .before .loop in
+    let round = c .before .with-members in
+    let inside : loop .state < R .states = omega arith in
+    sym (any-at (R .states) _ (loop .state) inside
+    (last-other _ _ (loop .state) (round .result) (round .ok) (round .ensures) (c .if1 .taken) R rule good reached inside))
 
 add-state : tie.Need-add-state Inv-loop μ-loop
 add-state c = omega arith
@@ -44,11 +50,16 @@ loop-less : tie.Need-loop-less Inv-loop μ-loop
 loop-less c = omega arith
 
 loop-again : tie.Need-loop-again Inv-loop μ-loop
-loop-again c = ?
+loop-again c =
+    let loop = c .before .before .before .before .loop in
+    let round = c .before .with-members in
+    let args = c .before .before .before .before .before .args in
+    (omega arith, below-more (λ q. LastAdds (now (args .moves)) (now (args .reach)) q false) (loop .state) (loop .inv .1)
+    (last-same _ _ (loop .state) (round .result) (round .ok) (round .ensures) (c .if1 .left)))
 
 returns-2 : tie.Need-returns-2 Inv-loop μ-loop
 unfolding roundsUsedUp
-returns-2 c R rule good size reached = sym (any-false (R .states) _ (λ q h. ? R rule good reached h))
+returns-2 c R rule good size reached = sym (any-false (R .states) _ (λ q h. c .before .loop .inv .1 q (omega arith) R rule good reached h))
 
 pub last-adds-spec : {M : Type 1} → statement M
 last-adds-spec =
