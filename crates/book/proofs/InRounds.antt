@@ -23,7 +23,7 @@ use Rattle.book.specs.Sets.{StandsFor, Moves, joined, reachedWord, Reach
 
 module _ (R : Rule) (rule : IsRule R) (q : ℕ) (start : q < R .states) where
   -- only states are marked
-  reached-below : (i p : ℕ) → marked (reachedIn R i q) p ≡ true → p < R .states
+  pub reached-below : (i p : ℕ) → marked (reachedIn R i q) p ≡ true → p < R .states
   reached-below i p e = reach-below R rule start (marked-reached R i q p e)
 
   one-below : (m p : ℕ) → m < R .states → oneMove R m p ≡ true → p < R .states

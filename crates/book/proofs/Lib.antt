@@ -1,3 +1,4 @@
 pub mod Standing
 pub mod Walked
 pub mod InRounds
+pub mod BookWords

@@ -7,7 +7,7 @@ use lib.ListN.{getD}
 use Rattle.meaning.specs.Answers.{Answer, given, _<?_}
 use Rattle.meaning.specs.RuleFile as format
 use Rattle.meaning.specs.RuleFile.{ruleOf, checkRule, letterMove, treeMove}
-use Rattle.meaning.specs.SkipBook.{anyBelow, goesTo, canEndTree, noneOr, oneMove, reachedIn, wordOf, bit}
+use Rattle.meaning.specs.SkipBook.{anyBelow, goesTo, canEndTree, noneOr, oneMove, reachedIn, holdMarks, wordOf, bit}
 use Rattle.rule.specs.declared.Rule.{Rule}
 use Rattle.rule.specs.Says.{numbersOf}
 
@@ -49,3 +49,7 @@ reachedWord R i q = wordOf (reachedIn R i q)
 
 unfoldable pub Reached : format.Rule → ℕ → List ℕ → Type 0
 Reached R i table = (q : ℕ) → q < R .states → getD table q 0 ≡ reachedWord R i q
+
+-- a table that has the word of hold(u) for each state u
+unfoldable pub Holds : format.Rule → List ℕ → Type 0
+Holds R table = (u : ℕ) → u < R .states → getD table u 0 ≡ wordOf (holdMarks R u)

@@ -2,3 +2,4 @@
 mod sets;
 mod moves;
 mod rounds;
+mod words;
