@@ -1,5 +1,5 @@
 -- The words that are gathered are the words of the book: a test on whole words is the test of every mark.
-use mathlib.Core.Path.{_≡_, refl, sym, ap, _∙_}
+use mathlib.Core.Path.{_≡_, refl, sym, ap, ap₂, _∙_}
 use mathlib.Core.Logic.{⊎-elim}
 use mathlib.Core.Bool.{Bool, true, false, not, _&&_, _||_}
 use mathlib.Core.List.{List, [], _∷_, _++_}
@@ -11,7 +11,7 @@ use lib.ListN.{length, getD, take, drop}
 use borrow.Author.Tests.{eqb-true, eq-eqb, not-true}
 use Rattle.meaning.specs.Answers.{_=?_}
 use Rattle.meaning.specs.RuleFile.{Rule, IsRule, treeMove}
-use Rattle.meaning.specs.SkipBook.{allBelow, listed, marked, noneOr, reachMarks, stillMarks, holdMarks, wordOf, bit}
+use Rattle.meaning.specs.SkipBook.{allBelow, listed, marked, noneOr, reachMarks, stillMarks, holdMarks, bookOf, wordOf, bit}
 use Rattle.meaning.proofs.Answered.{and-true, both-true}
 use Rattle.meaning.proofs.Marks.{truth, same-truth, absurd-truth, implied, implies, all-at, all-of, listed-length, listed-same, marked-true, marked-below}
 use Rattle.meaning.proofs.Rounds.{most-states, start-marked}
@@ -74,3 +74,34 @@ module _ (R : Rule) (rule : IsRule R) (q : ℕ) (start : q < R .states) where
         absurd-truth (implied (marked (reachMarks R q) p) _ (all-at (R .states) _ a p h) m)
         (not-true _ (first-true (R .states) _ p (sym (changing-at p h) ∙ both .1) .1)))
         (λ b. absurd-truth b (bit-zero p)))))
+
+-- ---- the words of the book
+
+module _ (R : Rule) (rule : IsRule R) (reach : List ℕ) (reached : Reached R 64 reach) (w : ℕ) (small : w < 2 ^ 64) where
+  pub still-is-word : StandsFor w (firstOf (R .states) (λ q. getD reach q 0 =? 2 ^ q)) → w ≡ wordOf (stillMarks R)
+  unfolding stillMarks Reached
+  still-is-word s =
+      first-word-of w (R .states) _ small (most-states rule) s
+      ∙ ap wordOf (listed-same (R .states) _ _ (λ q h. ap (λ (v : ℕ). v =? 2 ^ q) (reached q h) ∙ still-test R rule q h))
+
+  pub hold-is-word : (u change : ℕ) → StandsFor change (changing R u)
+      → StandsFor w (firstOf (R .states) (λ p. bitAnd (getD reach p 0) change =? 0)) → w ≡ wordOf (holdMarks R u)
+  unfolding holdMarks Reached
+  hold-is-word u change c s =
+      first-word-of w (R .states) _ small (most-states rule) s
+      ∙ ap wordOf (listed-same (R .states) _ _ (λ p h. ap (λ (v : ℕ). bitAnd v change =? 0) (reached p h) ∙ hold-test R rule p h u change c))
+
+-- the first n words of a table that has them
+take-listed : (n : ℕ) (table : List ℕ) (f : ℕ → ℕ) → n ≤ length table → ((i : ℕ) → i < n → getD table i 0 ≡ f i) → take n table ≡ listed n f
+unfolding listed
+take-listed zero table f h e = refl
+take-listed (suc n) [] f h e = absurd (not-suc-le-zero h)
+take-listed (suc n) (x ∷ table) f h e =
+    ap₂ _∷_ (e zero (suc-le-suc zero-le)) (take-listed n table (λ i. f (suc i)) (le-of-suc-le-suc h) (λ i l. e (suc i) (suc-le-suc l)))
+
+-- what is written is the book, and what stood past it
+pub book-written : (R : Rule) (still : ℕ) (holds rest : List ℕ) → still ≡ wordOf (stillMarks R) → R .states ≤ length holds → Holds R holds
+    → still ∷ (take (R .states) holds ++ rest) ≡ bookOf R ++ rest
+unfolding bookOf Holds
+book-written R still holds rest e long good =
+    ap₂ (λ (w : ℕ) (l : List ℕ). w ∷ (l ++ rest)) e (take-listed (R .states) holds (λ u. wordOf (holdMarks R u)) long good)

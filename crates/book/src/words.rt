@@ -4,19 +4,17 @@ use crate::moves::changes;
 use crate::sets::{no_sets, only, with};
 ghost use mathlib.Core.Path.{_≡_};
 ghost use mathlib.Core.List.{_∷_, _++_};
-ghost use Prim.Native.Nat.{_+_, _≤_, _<_};
+ghost use Prim.Native.Nat.{_+_, _^_, _≤_, _<_};
 ghost use lib.ListN.{length, take, drop, getD};
 ghost use lib.Bits.{bitAnd};
 ghost use Rattle.meaning.specs.Answers.{_=?_};
-ghost use Rattle.meaning.specs.RuleFile as format;
-ghost use Rattle.meaning.specs.RuleFile.{IsRule, ruleOf};
-ghost use Rattle.meaning.specs.SkipBook.{stillMarks, wordOf};
+ghost use Rattle.meaning.specs.RuleFile.{ruleOf};
 ghost use Rattle.book.specs.Sets.{StandsFor, firstOf, Accepted, Reached, Holds};
 
 // The states whose reach is themselves alone.
 pub fn still_word(reach: &[u64; 64], states: u8) -> u64
     requires { ⌜ states ≤ 64 ⌝ }
-    ensures { λ r. ⌜ ((R : format.Rule) → IsRule R → R .states ≡ states → Reached R 64 (now (reach .entry)) → r ≡ wordOf (stillMarks R)) ⌝ }
+    ensures { λ r. ⌜ StandsFor r (firstOf states (λ q. getD (now (reach .entry)) q 0 =? 2 ^ q)) ⌝ }
 {
     let mut set: u64 = 0;
     let mut state: u8 = 0;

@@ -1,50 +1,53 @@
+-- `book::words::hold_word` meets its contract. The loop's invariant: the word stands for those of the states so far whose reach
+-- has no state of the change. Assumes nothing.
+use borrow.Author.Needs.{needs}
+use mathlib.Core.Path.{_≡_, refl}
+use Prim.Native.Nat.{ℕ, _≤_, _-_}
+use native.Mathlib.Omega.{arith}
+use lib.Bits.{bitAnd}
+use lib.ListN.{getD}
+use Rattle.meaning.specs.Answers.{_=?_}
+use Rattle.book.specs.Sets.{StandsFor, firstOf}
+use Rattle.book.proofs.Standing.{gather-first}
 use Rattle.book.proofs.words.hold_word.Statement.{statement}
 use Rattle.book.proofs.words.hold_word.Tie as tie
-use Rattle.book.proofs.words.hold_word.Reads as reads
-use Rattle.book.proofs.words.hold_word.Lts as lts
-use Rattle.book.proofs.sets.with.Reads as with-reads
 
 abbrev Inv-loop : tie.InvT-loop
-Inv-loop reach states change set₀ state₀ set state = ?
+Inv-loop reach states change set₀ state₀ set state =
+    (state ≤ states) × StandsFor set (firstOf state (λ p. bitAnd (getD reach p 0) change =? 0))
 
 abbrev μ-loop : tie.MeasureT-loop
-μ-loop reach states change set₀ state₀ set state = ?
+μ-loop reach states change set₀ state₀ set state = states - state
 
--- src/words.rt:37:5
 loop-holds : tie.Need-loop-holds Inv-loop μ-loop
-loop-holds c = ?
+loop-holds c = (omega arith, gather-first _)
 
--- src/words.rt:38:38
 cast-with : tie.Need-cast-with Inv-loop μ-loop
-cast-with c = ?
+cast-with c = omega arith
 
--- src/words.rt:38:32
 mul-with : tie.Need-mul-with Inv-loop μ-loop
-mul-with c = ?
+mul-with c = omega arith
 
--- src/words.rt:38:32
 element-copy-out-with : tie.Need-element-copy-out-with Inv-loop μ-loop
-element-copy-out-with c = ?
+element-copy-out-with c = omega arith
 
--- src/words.rt:38:9
 with-requires : tie.Need-with-requires Inv-loop μ-loop
-with-requires c κs = ?
+with-requires c κs = omega arith
 
--- src/words.rt:39:9
 add-state : tie.Need-add-state Inv-loop μ-loop
-add-state c = ?
+add-state c = omega arith
 
--- src/words.rt:37:5
 loop-less : tie.Need-loop-less Inv-loop μ-loop
-loop-less c = ?
+loop-less c = omega arith
 
--- src/words.rt:37:5
 loop-again : tie.Need-loop-again Inv-loop μ-loop
-loop-again c = ?
+loop-again c = (omega arith, c .with .ensures _ refl (c .before .before .before .loop .inv .1))
 
--- src/words.rt:31:1
 returns : tie.Need-returns Inv-loop μ-loop
-returns c = ?
+returns c =
+    let loop = c .before .loop in
+    let last : loop .state ≡ c .before .before .args .states = omega arith in
+    rw last at (loop .inv .1)
 
 pub hold-word-spec : {M : Type 1} → statement M
 hold-word-spec =
