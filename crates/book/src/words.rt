@@ -42,7 +42,7 @@ fn hold_word(reach: &[u64; 64], states: u8, change: u64) -> u64
 // hold(u) for each state u.
 pub fn hold_words(file: &[u8], rule: Rule, reach: &[u64; 64]) -> [u64; 64]
     requires { ⌜ Accepted (now file) rule ⌝ }
-    ensures { λ r. ⌜ (Reached (ruleOf (now (file .entry))) 64 (now (reach .entry)) → Holds (ruleOf (now (file .entry))) r) ⌝ }
+    ensures { λ r. ⌜ (length r ≡ 64) × (Reached (ruleOf (now (file .entry))) 64 (now (reach .entry)) → Holds (ruleOf (now (file .entry))) r) ⌝ }
 {
     let mut table = no_sets();
     let states = rule.states;
@@ -56,7 +56,7 @@ pub fn hold_words(file: &[u8], rule: Rule, reach: &[u64; 64]) -> [u64; 64]
 
 // Word 0 is still, and word 1+u is hold(u). The words past them stay.
 pub fn write_words(book: &mut [u64], still: u64, holds: &[u64; 64], states: u8)
-    requires { ⌜ (states ≤ 64) × (states < length (now book)) ⌝ }
+    requires { ⌜ (states ≤ 64) × (states < length (now book)) × (length (now holds) ≡ 64) ⌝ }
     ensures { λ r. ⌜ now (book .exit) ≡ still ∷ (take states (now (holds .entry)) ++ drop (states + 1) (now (book .entry))) ⌝ }
 {
     book[0] = still;

@@ -65,7 +65,9 @@ loop-again c =
 
 returns : tie.Need-returns Inv-loop μ-loop
 unfolding Holds
-returns c reached u h = c .before .loop .inv .1 .each u (omega (arith, states-are (c .before .before .before .before .pre))) reached
+returns c =
+    let filled = c .before .loop .inv .1 in
+    (filled .long, λ reached u h. filled .each u (omega (arith, states-are (c .before .before .before .before .pre))) reached)
 
 pub hold-words-spec : {M : Type 1} → statement M
 hold-words-spec =
