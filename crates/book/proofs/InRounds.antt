@@ -15,7 +15,7 @@ use Rattle.meaning.specs.Answers.{_=?_}
 use Rattle.meaning.specs.RuleFile.{Rule, IsRule}
 use Rattle.meaning.specs.SkipBook.{itself, anyBelow, marked, oneMove, round, onlyState, reachedIn, adds, roundsUsedUp, wordOf, bit}
 use Rattle.meaning.proofs.Answered.{and-true, both-true}
-use Rattle.meaning.proofs.Marks.{truth, same-truth, or-true, or-left, or-right, any-at, any-some, any-false, never-both}
+use Rattle.meaning.proofs.Marks.{truth, same-truth, or-true, or-left, or-right, any-at, any-some, any-none, any-false, never-both}
 use Rattle.meaning.proofs.Rounds.{most-states, reach-below, one-reaches, round-keeps, round-adds, round-true, round-same, round-length, nothing-added, marked-reached, next-round, first-round, only-true, only-start, only-length}
 use Rattle.meaning.proofs.Bits.{bit-word, bit-past, word-of, same-bits}
 use Rattle.book.proofs.Standing.{stands-as, stands-only, stands-word}
@@ -155,3 +155,9 @@ module _ (moves reach : List ℕ) where
     last-other ne R rule good reached start = ⊎-elim (λ t. t)
         (λ f. absurd (ne (last-word R rule good reached start ∙ word-stays R rule q start 63 f ∙ sym (reached q start))))
         (truth (adds R (reachedIn R 63 q) (reachedIn R 64 q)))
+
+-- where the last round adds nothing, the words before it are those after it
+pub reached-last : (R : Rule) → IsRule R → (reach : List ℕ) → Reached R 63 reach → roundsUsedUp R ≡ false → Reached R 64 reach
+unfolding Reached roundsUsedUp
+reached-last R rule reach reached e q h =
+    reached q h ∙ sym (word-stays R rule q h 63 (any-none (R .states) (λ s. adds R (reachedIn R 63 s) (reachedIn R 64 s)) e q h))

@@ -7,12 +7,14 @@ ghost use mathlib.Core.List.{_∷_, _++_};
 ghost use Prim.Native.Nat.{_+_, _^_, _≤_, _<_};
 ghost use lib.ListN.{length, take, drop, getD};
 ghost use lib.Bits.{bitAnd};
+ghost use lib.Count.{ones};
 ghost use Rattle.meaning.specs.Answers.{_=?_};
 ghost use Rattle.meaning.specs.RuleFile.{ruleOf};
+ghost use Rattle.meaning.specs.SkipBook.{stillMarks, wordOf, bookOf};
 ghost use Rattle.book.specs.Sets.{StandsFor, firstOf, Accepted, Reached, Holds};
 
 // The states whose reach is themselves alone.
-pub fn still_word(reach: &[u64; 64], states: u8) -> u64
+fn still_word(reach: &[u64; 64], states: u8) -> u64
     requires { ⌜ states ≤ 64 ⌝ }
     ensures { λ r. ⌜ StandsFor r (firstOf states (λ q. getD (now (reach .entry)) q 0 =? 2 ^ q)) ⌝ }
 {
@@ -40,7 +42,7 @@ fn hold_word(reach: &[u64; 64], states: u8, change: u64) -> u64
 }
 
 // hold(u) for each state u.
-pub fn hold_words(file: &[u8], rule: Rule, reach: &[u64; 64]) -> [u64; 64]
+fn hold_words(file: &[u8], rule: Rule, reach: &[u64; 64]) -> [u64; 64]
     requires { ⌜ Accepted (now file) rule ⌝ }
     ensures { λ r. ⌜ (length r ≡ 64) × (Reached (ruleOf (now (file .entry))) 64 (now (reach .entry)) → Holds (ruleOf (now (file .entry))) r) ⌝ }
 {
@@ -55,7 +57,7 @@ pub fn hold_words(file: &[u8], rule: Rule, reach: &[u64; 64]) -> [u64; 64]
 }
 
 // Word 0 is still, and word 1+u is hold(u). The words past them stay.
-pub fn write_words(book: &mut [u64], still: u64, holds: &[u64; 64], states: u8)
+fn write_words(book: &mut [u64], still: u64, holds: &[u64; 64], states: u8)
     requires { ⌜ (states ≤ 64) × (states < length (now book)) × (length (now holds) ≡ 64) ⌝ }
     ensures { λ r. ⌜ now (book .exit) ≡ still ∷ (take states (now (holds .entry)) ++ drop (states + 1) (now (book .entry))) ⌝ }
 {
@@ -65,4 +67,20 @@ pub fn write_words(book: &mut [u64], still: u64, holds: &[u64; 64], states: u8)
         book[1 + upper as usize] = holds[upper as usize];
         upper += 1;
     }
+}
+
+// The book of a rule whose Reach is found, made in its own room and then written. The answer is how many states are still,
+// counted as the ones in that word.
+pub fn write_book(file: &[u8], rule: Rule, reach: &[u64; 64], book: &mut [u64]) -> u32
+    requires { ⌜ Accepted (now file) rule ⌝ }
+    requires { ⌜ rule .states < length (now book) ⌝ }
+    requires { ⌜ Reached (ruleOf (now file)) 64 (now reach) ⌝ }
+    ensures { λ r. ⌜ r ≡ ones (wordOf (stillMarks (ruleOf (now (file .entry))))) ⌝ }
+    ensures { λ r. ⌜ now (book .exit) ≡ bookOf (ruleOf (now (file .entry))) ++ drop (rule .states + 1) (now (book .entry)) ⌝ }
+{
+    let states = rule.states;
+    let still = still_word(reach, states);
+    let holds = hold_words(file, rule, reach);
+    write_words(book, still, &holds, states);
+    u64::count_ones(still)
 }
