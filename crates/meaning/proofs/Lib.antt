@@ -6,3 +6,4 @@ pub mod Marks
 pub mod Rounds
 pub mod Bits
 pub mod BookMade
+pub mod RoundTrip
