@@ -11,6 +11,16 @@ use borrow.Author.Tests.{lt-ltb, le-ltb}
 use Rattle.meaning.specs.Answers.{Answer, given, refused, _<?_, refuse_at_when_otherwise_, _giving_}
 use Rattle.meaning.specs.RuleFile.{Rule, checkRule, ruleOf}
 use Rattle.meaning.specs.SkipBook.{roundsUsedUp, stillMarks, wordOf, bookOf, makeBook, bookAfter}
+use Rattle.meaning.specs.Calls.{refusalSays}
+use Rattle.rule.specs.declared.Rule.{Rule as Numbers}
+use Rattle.rule.specs.declared.Checked.the-variants as checked
+use Rattle.rule.specs.Says.{numbersOf, checkedSays, checkAnswer}
+use Rattle.rule.proofs.Said.{fine-accepted}
+use Rattle.book.specs.declared.Made.{Made}
+use Rattle.book.specs.declared.Made.the-variants as made
+use Rattle.book.specs.Says.{madeSays}
+use Rattle.book.specs.Sets.{Accepted}
+use Rattle.meaning.proofs.Accepted.{accepted-rule}
 use Rattle.meaning.proofs.Answered.{refuse-stops, refuse-passes, giving-passes, giving-stops}
 
 module _ (file book : List ℕ) {R : Rule} (accepted : checkRule file ≡ given R) where
@@ -43,3 +53,21 @@ pub after-given : (answer : Answer ℕ) {count : ℕ} (R : Rule) (book : List �
     → bookAfter answer R book ≡ bookOf R ++ drop (R .states + 1) book
 unfolding bookAfter
 after-given answer R book e = rw (e, bookAfter)
+
+-- the numbers of a rule that the check gave are those of the file's rule
+pub fine : (file : List ℕ) (rule : Numbers) → checkedSays (checked.Fine rule) ≡ checkAnswer file → Accepted file rule
+fine file rule e =
+    let f = fine-accepted file rule e in
+    let same : ruleOf file ≡ f .0 = accepted-rule file (f .1) in
+    record { passed = f .1 ∙ ap given (sym same); numbers = ap numbersOf same ∙ f .2 }
+
+-- two answers that say the same are the same
+pub made-says : (a b : Made) → madeSays a ≡ madeSays b → a ≡ b
+unfolding madeSays refusalSays
+made-says (made.Still a) (made.Still b) e = cc
+made-says (made.Still a) (made.Refused b) e = cc
+made-says (made.Refused a) (made.Still b) e = cc
+made-says (made.Refused a) (made.Refused b) e =
+    let number : a .number ≡ b .number = cc in
+    let place : a .place ≡ b .place = cc in
+    λ i. made.Refused (record { number = number i; place = place i })

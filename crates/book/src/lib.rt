@@ -5,7 +5,7 @@ mod sets;
 mod words;
 
 use meaning::Refusal;
-use rule::Rule;
+use rule::{Checked, Rule};
 ghost use mathlib.Core.Path.{_≡_};
 ghost use Rattle.meaning.specs.RuleFile.{ruleOf};
 ghost use Rattle.meaning.specs.SkipBook.{makeBook, bookAfter};
@@ -45,4 +45,15 @@ fn make_for(file: &[u8], rule: Rule, book: &mut [u64]) -> Made
         });
     }
     Made::Still(words::write_book(file, rule, &reach, book))
+}
+
+// The maker: the book of the rule that a file holds. A refused call leaves the book untouched.
+pub fn make_book(file: &[u8], book: &mut [u64]) -> Made
+    ensures { λ r. ⌜ madeSays r ≡ makeBook (now (file .entry)) (now (book .entry)) ⌝ }
+    ensures { λ r. ⌜ now (book .exit) ≡ bookAfter (makeBook (now (file .entry)) (now (book .entry))) (ruleOf (now (file .entry))) (now (book .entry)) ⌝ }
+{
+    match Rule::of_file(file) {
+        Checked::Refused(refusal) => Made::Refused(refusal),
+        Checked::Fine(rule) => make_for(file, rule, book),
+    }
 }
