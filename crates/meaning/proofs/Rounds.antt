@@ -13,7 +13,7 @@ use Rattle.meaning.specs.Answers.{_<?_, _=?_, _≤?_}
 use Rattle.meaning.specs.RuleFile.{Rule, IsRule, Move, noMove, to, none, asMove, letterMove, treeMove, isMove, isState, isStates}
 use Rattle.meaning.specs.SkipBook.{canEndTree, Reach, itself, byLetter, byTree, anyBelow, allBelow, listed, marked, goesTo, oneMove, round, rounds, onlyState, reachedIn, adds, reachMarks, roundsUsedUp}
 use Rattle.meaning.proofs.Answered.{if-true, if-false, and-true, both-true}
-use Rattle.meaning.proofs.Marks.{truth, same-truth, or-true, or-left, or-right, absurd-truth, not-without, any-at, any-some, any-none, any-false, any-same, never-both, listed-same, marked-below, marked-true, countBelow, count-most, count-less, count-some}
+use Rattle.meaning.proofs.Marks.{truth, same-truth, or-true, or-left, or-right, absurd-truth, not-without, any-at, any-some, any-none, any-false, any-same, never-both, listed-length, listed-same, marked-below, marked-true, countBelow, count-most, count-less, count-some}
 
 -- ---- moves
 
@@ -121,6 +121,10 @@ module _ (R : Rule) where
   unfolding round
   round-true marks p e = marked-true (R .states) _ p e
 
+  pub round-length : (marks : List Bool) → length (round R marks) ≡ R .states
+  unfolding round
+  round-length marks = listed-length (R .states) _
+
   -- a round keeps the marks
   pub round-keeps : (marks : List Bool) (p : ℕ) → p < R .states → marked marks p ≡ true → marked (round R marks) p ≡ true
   round-keeps marks p h e = round-at marks p h ∙ or-left _ e
@@ -153,13 +157,17 @@ module _ (R : Rule) where
   unfolding reachedIn rounds
   next-round i q = refl
 
-  only-true : (q p : ℕ) → marked (onlyState R q) p ≡ true → p ≡ q
+  pub only-true : (q p : ℕ) → marked (onlyState R q) p ≡ true → p ≡ q
   unfolding onlyState
   only-true q p e = eqb-true p q (marked-true (R .states) (λ s. s =? q) p e .1)
 
-  only-start : (q : ℕ) → q < R .states → marked (onlyState R q) q ≡ true
+  pub only-start : (q : ℕ) → q < R .states → marked (onlyState R q) q ≡ true
   unfolding onlyState
   only-start q h = marked-below (R .states) (λ s. s =? q) q h ∙ eq-eqb q q refl
+
+  pub only-length : (q : ℕ) → length (onlyState R q) ≡ R .states
+  unfolding onlyState
+  only-length q = listed-length (R .states) _
 
   -- the start is marked after any number of rounds
   pub start-marked : (i q : ℕ) → q < R .states → marked (reachedIn R i q) q ≡ true
