@@ -46,8 +46,7 @@ loop-again c =
     let start = c .before .before .before .before .before .before .before .before in
     let loop = c .before .before .before .before .before .before .loop in
     let u : ℕ = start .args .upper in
-    let move = ap asMove (c .before .before .before .tree-move .ensures) ∙ tree-is (start .pre .0) u (loop .lower) (start .pre .1) (c .before .before .before .before .if1 .taken) in
-    (
+    let move = ap asMove (c .before .before .before .tree-move .ensures) ∙ tree-is (start .pre .0) u (loop .lower) (start .pre .1) (c .before .before .before .before .if1 .taken) in (
       omega arith,
       c .with .ensures _ (loop .lower) (c .before .before .only .ensures) (sym (c .before .changed .ensures ∙ ap (λ m. not (noneOr u m)) move)) (loop .inv .1),
     )
