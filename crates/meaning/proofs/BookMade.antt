@@ -1,9 +1,9 @@
 -- The book of a rule is its skip book: its sets are the rule's own still and hold(u). A word has the bits of its marks, the
 -- marks test all of Reach, and where rounds are not used up the marks of Reach are Reach.
-use mathlib.Core.Path.{_≡_, refl, sym, ap, _∙_, subst}
+use mathlib.Core.Path.{_≡_, sym, ap, _∙_, subst}
 use mathlib.Core.Logic.{_↔_}
 use mathlib.Core.Bool.{Bool, true, false, not, _||_}
-use mathlib.Core.List.{List, [], _∷_, _++_}
+use mathlib.Core.List.{List, _++_}
 use Prim.Native.Nat.{ℕ, zero, suc, _+_, _^_, _≤_, _<_}
 use native.Mathlib.Numerals.{one-add, add-one}
 use lib.Count.{ones}
@@ -12,7 +12,7 @@ use lib.Pow.{pow-pos}
 use borrow.Author.Tests.{eqb-true, eq-eqb, le-ltb}
 use Rattle.meaning.specs.Answers.{given, _=?_}
 use Rattle.meaning.specs.RuleFile.{Rule, IsRule, treeMove, checkRule, ruleOf}
-use Rattle.meaning.specs.SkipBook.{Reach, Still, Hold, noneOr, anyBelow, allBelow, listed, marked, adds, reachedIn, reachMarks, roundsUsedUp, stillMarks, holdMarks, wordOf, bit, bookOf, inStill, inHold, IsBook, makeBook, bookAfter}
+use Rattle.meaning.specs.SkipBook.{Reach, Still, Hold, noneOr, allBelow, listed, marked, adds, reachedIn, reachMarks, roundsUsedUp, stillMarks, holdMarks, wordOf, bit, bookOf, inStill, inHold, IsBook, makeBook, bookAfter}
 use Rattle.meaning.proofs.Answered.{refuse-given, refuse-passes, giving-given, giving-passes}
 use Rattle.meaning.proofs.Accepted.{accepted-rule, accepted-is-rule}
 use Rattle.meaning.proofs.Marks.{implied, implies, any-none, all-at, all-of, listed-length, listed-at, listed-each, marked-below}

@@ -1,6 +1,5 @@
 -- `book::words::write_words` meets its contract. The loop's invariant: the hold words so far are copied in after still.
 -- Assumes nothing.
-use borrow.Author.Needs.{needs}
 use mathlib.Core.Path.{_≡_, refl, sym, ap, _∙_}
 use mathlib.Core.List.{List}
 use Prim.Native.Nat.{ℕ, _+_, _≤_, _<_, _-_}
