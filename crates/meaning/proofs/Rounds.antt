@@ -1,17 +1,16 @@
 -- When a round adds nothing, the marks are Reach. What a round marks was marked or is one move away, so what is marked is in
 -- Reach; marks that a round does not add to hold their start and are closed under moves, so they hold all of Reach.
 use mathlib.Core.Path.{_≡_, refl, sym, ap, ap₂, _∙_, subst}
-use mathlib.Core.Logic.{_⊎_, inl, inr, ⊎-elim, _↔_}
+use mathlib.Core.Logic.{⊎-elim, _↔_}
 use mathlib.Core.Bool.{Bool, true, false, not, _&&_, _||_, false≢true}
 use mathlib.Core.List.{List, [], _∷_}
 use Prim.Native.Nat.{ℕ, zero, suc, _*_, _+_, _≤_, _<_, zero-le, suc-le-suc}
-use native.Mathlib.Nat.{not-suc-le-zero, le-of-suc-le-suc}
 use native.Mathlib.Omega.{arith}
 use lib.ListN.{length, getD}
 use borrow.Author.Tests.{ltb-true, lt-ltb, leb-true, eqb-true, eq-eqb, not-true}
 use Rattle.meaning.specs.Answers.{_<?_, _=?_, _≤?_}
 use Rattle.meaning.specs.RuleFile.{Rule, IsRule, Move, noMove, to, none, asMove, letterMove, treeMove, isMove, isState, isStates}
-use Rattle.meaning.specs.SkipBook.{canEndTree, Reach, itself, byLetter, byTree, anyBelow, allBelow, listed, marked, goesTo, oneMove, round, rounds, onlyState, reachedIn, adds, reachMarks, roundsUsedUp}
+use Rattle.meaning.specs.SkipBook.{canEndTree, Reach, itself, byLetter, byTree, anyBelow, marked, goesTo, oneMove, round, rounds, onlyState, reachedIn, adds, reachMarks, roundsUsedUp}
 use Rattle.meaning.proofs.Answered.{if-true, if-false, and-true, both-true}
 use Rattle.meaning.proofs.Marks.{truth, same-truth, or-true, or-left, or-right, absurd-truth, not-without, any-at, any-some, any-none, any-false, any-same, never-both, listed-length, listed-same, marked-below, marked-true, countBelow, count-most, count-less, count-some}
 
