@@ -1,0 +1,122 @@
+-- Laws of one event, which the proofs of the functions cite: what a look in a table gives, which event a number is, and that
+-- the numbers the code holds are those of the rule.
+use mathlib.Core.Path.{_≡_, refl, sym, ap, _∙_}
+use mathlib.Core.Bool.{Bool, true, false}
+use mathlib.Core.List.{List}
+use Prim.Native.Nat.{ℕ, zero, suc, _+_, _-_, _≤_, _<_}
+use native.Mathlib.Omega.{arith}
+use borrow.Author.Tests.{eq-eqb, ne-eqb, leb-true, lt-leb, ltb-true}
+use lib.ListN.{length}
+use Rattle.meaning.specs.Answers.{Answer, given, refused, if_then_else_, _≤?_, _<?_}
+use Rattle.meaning.specs.RuleFile as format
+use Rattle.meaning.specs.RuleFile.{none, mostStates, asMove, isStates, ruleOf, to, noMove, treeStartMove}
+use Rattle.meaning.specs.FullReading.{Event, opens, closes, letter, eventOf, Table, letterTable, startTable, treeTable, noMoveNumber, look, looked, opened, fullTurn, Turn, stays, stores, ends}
+use Rattle.meaning.specs.SkipBook.{inHold}
+use Rattle.meaning.specs.Skipping.{held}
+use Rattle.meaning.specs.declared.Reading.{Reading}
+use Rattle.meaning.specs.declared.Level.{Level}
+use Rattle.meaning.proofs.Answered.{if-true, if-false, and-true, refuse-passes}
+use Rattle.meaning.proofs.Accepted.{accepted-is-rule}
+use Rattle.rule.proofs.Looks.{letter-look, tree-look}
+use Rattle.rule.specs.Tables.{letterByte, treeByte}
+use Rattle.rule.specs.Says.{numbersOf}
+use Rattle.rule.specs.declared.Rule.{Rule}
+use Rattle.reading.specs.Turns.{RuleOf, StatesIn, BookServes}
+
+-- ---- a look at a byte of a table
+
+pub look-none : (table : Table) (place x : ℕ) (next : ℕ → Turn) → x ≡ none
+    → look table place (asMove x) next ≡ refused (noMoveNumber table) place
+unfolding look asMove
+look-none table place x next h = rw (if-true noMove (to x) (eq-eqb x none h), look)
+
+pub look-to : (table : Table) (place x : ℕ) (next : ℕ → Turn) → (x ≡ none → ⊥)
+    → look table place (asMove x) next ≡ given (next x)
+unfolding look asMove
+look-to table place x next h = rw (if-false noMove (to x) (ne-eqb x none h), look)
+
+-- ---- which event a number is
+
+pub opens-is : {e : ℕ} → e ≡ 0 → eventOf e ≡ opens
+unfolding eventOf
+opens-is h = rw h
+
+pub closes-is : {e : ℕ} → e ≡ 1 → eventOf e ≡ closes
+unfolding eventOf
+closes-is h = rw h
+
+pub letter-is : (e : ℕ) → 2 ≤ e → eventOf e ≡ letter (e - 2)
+unfolding eventOf
+letter-is zero h = absurd (omega arith)
+letter-is (suc zero) h = absurd (omega arith)
+letter-is (suc (suc a)) h = ap letter (omega arith)
+
+-- ---- a held level is not the top
+
+pub held-inside : (book : List ℕ) (r : Reading) (top : Level) → held book r top ≡ true → 0 < r .depth
+unfolding held
+held-inside book r top e = ltb-true 0 (r .depth) (and-true (0 <? r .depth) (inHold book (top .above) (r .state)) e .0)
+
+-- ---- the numbers that the code holds are those of the rule
+
+module _ {file : List ℕ} {rule : Rule} (h : RuleOf file rule) where
+  pub states-are : ruleOf file .states ≡ rule .states
+  unfolding numbersOf
+  states-are = ap (λ (n : Rule). n .states) (h .numbers)
+
+  pub letters-are : ruleOf file .letters ≡ rule .letters
+  unfolding numbersOf
+  letters-are = ap (λ (n : Rule). n .letters) (h .numbers)
+
+  pub tree-start-is : ruleOf file .treeStart ≡ rule .«tree_start»
+  unfolding numbersOf
+  tree-start-is = ap (λ (n : Rule). n .«tree_start») (h .numbers)
+
+  pub few-states : rule .states ≤ 64
+  unfolding isStates
+  few-states =
+      let n : ℕ = ruleOf file .states in
+      let in-range = and-true (1 ≤? n) (n ≤? mostStates) (accepted-is-rule file (h .accepted) .statesIn) in
+      omega (arith, states-are, leb-true n mostStates (in-range .1))
+
+  -- ---- the book serves
+
+  pub book-serves : (book : List ℕ) (r : Reading) (top : Level) → rule .states < length book → StatesIn rule r top
+      → BookServes book r top
+  book-serves book r top long states =
+      let few : rule .states ≤ 64 = few-states in
+      record {
+        stateBit = omega arith;
+        stillWord = omega arith;
+        holdWord = λ inside. omega (arith, states .aboveIn inside);
+      }
+
+  -- ---- a table look of full reading is a look at a byte of the file, once the checks before it passed
+
+  pub letter-turn : (room ceiling : ℕ) (r : Reading) (top : Level) (a : ℕ) → r .looks < ceiling → r .state < rule .states
+      → a < rule .letters
+      → fullTurn (ruleOf file) room ceiling r top (letter a)
+      ≡ look letterTable (r .taken) (asMove (letterByte file (rule .letters) (r .state) a)) (λ q. stays (looked r q (r .depth)))
+  unfolding fullTurn
+  letter-turn room ceiling r top a low hq ha =
+      refuse-passes 9 (r .taken) _ (lt-leb ceiling (r .looks) low)
+      ∙ rw (← letters-are, letter-look file (h .accepted) (r .state) a (omega (arith, states-are)) (omega (arith, letters-are)))
+
+  pub open-turn : (room ceiling : ℕ) (r : Reading) (top : Level) → r .depth < room → r .looks < ceiling
+      → fullTurn (ruleOf file) room ceiling r top opens
+      ≡ look startTable (r .taken) (asMove (rule .«tree_start»)) (λ q. stores (opened r) (looked r q (r .depth + 1)))
+  unfolding fullTurn treeStartMove
+  open-turn room ceiling r top free low =
+      refuse-passes 8 (r .taken) _ (lt-leb room (r .depth) free)
+      ∙ refuse-passes 9 (r .taken) _ (lt-leb ceiling (r .looks) low)
+      ∙ rw tree-start-is
+
+  pub close-turn : (room ceiling : ℕ) (r : Reading) (top : Level) → (r .depth ≡ 0 → ⊥) → r .looks < ceiling
+      → r .state < rule .states → top .above < rule .states
+      → fullTurn (ruleOf file) room ceiling r top closes
+      ≡ look treeTable (r .taken) (asMove (treeByte file (rule .states) (rule .letters) (top .above) (r .state))) (λ q. ends (looked r q (r .depth - 1)))
+  unfolding fullTurn
+  close-turn room ceiling r top inside low hq hu =
+      refuse-passes 7 (r .taken) _ (ne-eqb (r .depth) 0 inside)
+      ∙ refuse-passes 9 (r .taken) _ (lt-leb ceiling (r .looks) low)
+      ∙ rw (← letters-are, ← states-are, tree-look file (h .accepted) (top .above) (r .state) (omega (arith, states-are)) (omega (arith, states-are)))

@@ -1,0 +1,16 @@
+// The reading of events: what one event leads to, by value, and the calls over the lent level store.
+mod settling;
+mod turns;
+
+use meaning::Level;
+use meaning::Reading;
+use meaning::Refusal;
+
+// What one event leads to: the open levels stay, a record is stored for one more level, the innermost level ends, or
+// the event is refused.
+pub enum Turn {
+    Stays(Reading),
+    Stores(Level, Reading),
+    Ends(Reading),
+    Refused(Refusal),
+}
