@@ -9,8 +9,8 @@ use borrow.Author.Tests.{eq-eqb, ne-eqb, leb-true, lt-leb, ltb-true}
 use lib.ListN.{length}
 use Rattle.meaning.specs.Answers.{Answer, given, refused, if_then_else_, _≤?_, _<?_}
 use Rattle.meaning.specs.RuleFile as format
-use Rattle.meaning.specs.RuleFile.{none, mostStates, asMove, isStates, ruleOf, to, noMove, treeStartMove}
-use Rattle.meaning.specs.FullReading.{Event, opens, closes, letter, eventOf, Table, letterTable, startTable, treeTable, noMoveNumber, look, looked, opened, fullTurn, Turn, stays, stores, ends}
+use Rattle.meaning.specs.RuleFile.{none, mostStates, mostLetters, asMove, isStates, isLetters, ruleOf, to, noMove, treeStartMove}
+use Rattle.meaning.specs.FullReading.{Event, opens, closes, letter, eventOf, mostEvents, knownEvent, Table, letterTable, startTable, treeTable, noMoveNumber, look, looked, opened, fullTurn, Turn, stays, stores, ends}
 use Rattle.meaning.specs.SkipBook.{inHold}
 use Rattle.meaning.specs.Skipping.{held}
 use Rattle.meaning.specs.declared.Reading.{Reading}
@@ -78,6 +78,22 @@ module _ {file : List ℕ} {rule : Rule} (h : RuleOf file rule) where
       let n : ℕ = ruleOf file .states in
       let in-range = and-true (1 ≤? n) (n ≤? mostStates) (accepted-is-rule file (h .accepted) .statesIn) in
       omega (arith, states-are, leb-true n mostStates (in-range .1))
+
+  pub few-letters : rule .letters ≤ 256
+  unfolding isLetters
+  few-letters =
+      let k : ℕ = ruleOf file .letters in
+      let in-range = and-true (1 ≤? k) (k ≤? mostLetters) (accepted-is-rule file (h .accepted) .lettersIn) in
+      omega (arith, letters-are, leb-true k mostLetters (in-range .1))
+
+  -- ---- an event that is within the limit and known is taken as its turn says
+
+  pub known-turn : (r : Reading) (e : ℕ) (turn : Answer Turn) → r .taken < mostEvents → e < rule .letters + 2
+      → knownEvent (ruleOf file) r e turn ≡ turn
+  unfolding knownEvent
+  known-turn r e turn more known =
+      refuse-passes 16 (r .taken) _ (lt-leb mostEvents (r .taken) more)
+      ∙ refuse-passes 10 (r .taken) _ (lt-leb (ruleOf file .letters + 2) e (omega (arith, letters-are)))
 
   -- ---- the book serves
 

@@ -134,3 +134,51 @@ fn ends_level(file: &[u8], rule: Rule, book: &[u64], ceiling: u32, reading: Read
     }
     full_close(file, rule, ceiling, reading, top)
 }
+
+// An event that stands on a settled level: nothing is looked up until the close that ends the level.
+fn settled_turn(file: &[u8], rule: Rule, book: &[u64], ceiling: u32, reading: Reading, top: Level, event: u16) -> Turn
+    requires { ⌜ Ready (now file) rule (now book) reading top ⌝ ∗ ⌜ OneMore reading ⌝ }
+    ensures { λ r. ⌜ ((room : ℕ) → turnSays r ≡ settledTurn (ruleOf (now (file .entry))) (now (book .entry)) room ceiling reading top (eventOf event)) ⌝ }
+{
+    if event == 0 {
+        return Turn::Stays(passed(reading, reading.state, reading.depth, reading.skip + 1));
+    }
+    if event == 1 {
+        if 0 < reading.skip {
+            return Turn::Stays(passed(reading, reading.state, reading.depth, reading.skip - 1));
+        }
+        return ends_level(file, rule, book, ceiling, reading, top);
+    }
+    Turn::Stays(passed(reading, reading.state, reading.depth, reading.skip))
+}
+
+// An event in full reading.
+fn full_turn(file: &[u8], rule: Rule, room: usize, ceiling: u32, reading: Reading, top: Level, event: u16) -> Turn
+    requires { ⌜ RuleOf (now file) rule ⌝ ∗ ⌜ OneMore reading ⌝ ∗ ⌜ StatesIn rule reading top ⌝ ∗ ⌜ event < rule .letters + 2 ⌝ }
+    ensures { λ r. ⌜ turnSays r ≡ fullTurn (ruleOf (now (file .entry))) room ceiling reading top (eventOf event) ⌝ }
+{
+    if event == 0 {
+        return full_open(rule, room, ceiling, reading);
+    }
+    if event == 1 {
+        return full_close(file, rule, ceiling, reading, top);
+    }
+    full_letter(file, rule, ceiling, reading, event - 2)
+}
+
+// An event: the event limit and the known letters, and then what the settled level or full reading makes of it.
+pub fn skip_event(file: &[u8], rule: Rule, book: &[u64], room: usize, ceiling: u32, reading: Reading, top: Level, event: u16) -> Turn
+    requires { ⌜ Ready (now file) rule (now book) reading top ⌝ }
+    ensures { λ r. ⌜ turnSays r ≡ skipEvent (ruleOf (now (file .entry))) (now (book .entry)) room ceiling reading top event ⌝ }
+{
+    if MOST_EVENTS <= reading.taken {
+        return refused_event(reading, 16);
+    }
+    if rule.letters + 2 <= event {
+        return refused_event(reading, 10);
+    }
+    if is_settled(book, reading, top) {
+        return settled_turn(file, rule, book, ceiling, reading, top, event);
+    }
+    full_turn(file, rule, room, ceiling, reading, top, event)
+}
