@@ -1,4 +1,5 @@
 // The reading of events: what one event leads to, by value, and the calls over the lent level store.
+mod levels;
 mod settling;
 mod turns;
 
@@ -12,5 +13,11 @@ pub enum Turn {
     Stays(Reading),
     Stores(Level, Reading),
     Ends(Reading),
+    Refused(Refusal),
+}
+
+// What becomes of an event that is handed to a reading over a level store: the next reading, or a refusal.
+pub enum Step {
+    To(Reading),
     Refused(Refusal),
 }
