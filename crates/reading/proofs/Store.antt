@@ -75,3 +75,7 @@ holds-set states places i l h =
       holdsStates = sym (sym (states-past store states i (l .above) below) ∙ (rw laid at (states-held (set states i (l .above)) (set places i (l .opened)))));
       holdsPlaces = sym (sym (places-past store places i (l .opened) below) ∙ (rw laid at (places-held (set states i (l .above)) (set places i (l .opened)))));
     }
+
+-- the slices as they stand hold the store
+pub holds-same : (states places : List ℕ) → Holds (storeOf states places) states places states places
+holds-same states places = record { holdsStates = sym (states-held states places); holdsPlaces = sym (places-held states places) }

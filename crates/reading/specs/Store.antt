@@ -4,11 +4,7 @@ use Prim.Native.Nat.{ℕ}
 use mathlib.Core.Path.{_≡_}
 use mathlib.Core.List.{List, [], _∷_, _++_, map}
 use lib.ListN.{length, drop}
-use Rattle.meaning.specs.Answers.{Answer, given, refused}
-use Rattle.meaning.specs.Calls.{Stored, refusalSays}
 use Rattle.meaning.specs.declared.Level.{Level}
-use Rattle.reading.specs.declared.Step.{Step}
-use Rattle.reading.specs.declared.Step.the-variants as step
 
 unfoldable pub storeOf : List ℕ → List ℕ → List Level
 storeOf [] places = []
@@ -25,13 +21,3 @@ placesAfter store places = map (λ l. l .opened) store ++ drop (length store) pl
 pub record Holds (store : List Level) (states places states′ places′ : List ℕ) : Type 0 where
   pub holdsStates : states′ ≡ statesAfter store states
   pub holdsPlaces : places′ ≡ placesAfter store places
-
--- the number and the values of each case of an event that was handed to a reading over a store
-unfoldable pub stepSays : Step → List Level → Answer Stored
-stepSays (step.To r) store = given (record { reading = r; store = store })
-stepSays (step.Refused r) store = refusalSays r
-
--- the store after an event: a refused event changes nothing
-unfoldable pub storeAfter : Answer Stored → List Level → List Level
-storeAfter (given s) store = s .store
-storeAfter (refused number place) store = store

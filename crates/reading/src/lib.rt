@@ -1,4 +1,5 @@
 // The reading of events: what one event leads to, by value, and the calls over the lent level store.
+mod feeding;
 mod levels;
 mod settling;
 mod turns;
