@@ -1,3 +1,4 @@
 pub mod Turned
 pub mod Store
 pub mod Steps
+pub mod Going

@@ -5,8 +5,8 @@ use mathlib.Core.List.{List, [], _∷_, _++_, map}
 use Prim.Native.Nat.{ℕ, zero, suc, _≤_, _<_, min}
 use native.Mathlib.Nat.{not-suc-le-zero, le-of-suc-le-suc}
 use native.Mathlib.Omega.{arith}
-use lib.ListN.{length, getD, set, drop, length-set}
-use lib.Seq.{drop-set-lt}
+use lib.ListN.{length, getD, set, drop, length-set, length-append, length-drop, length-map}
+use lib.Seq.{drop-set-lt, drop-at}
 use Rattle.meaning.specs.FullReading.{blank}
 use Rattle.meaning.specs.declared.Level.{Level}
 use Rattle.reading.specs.Store.{storeOf, statesAfter, placesAfter, Holds}
@@ -79,3 +79,60 @@ holds-set states places i l h =
 -- the slices as they stand hold the store
 pub holds-same : (states places : List ℕ) → Holds (storeOf states places) states places states places
 holds-same states places = record { holdsStates = sym (states-held states places); holdsPlaces = sym (places-held states places) }
+
+-- ---- what the slices hold after a store of the same length was laid
+
+empty-is : {A : Type 0} (l : List A) → length l ≡ 0 → l ≡ []
+empty-is [] e = refl
+empty-is (a ∷ l) e = absurd (omega arith)
+
+store-after : (store : List Level) (states places : List ℕ) → length store ≡ length (storeOf states places)
+    → storeOf (statesAfter store states) (placesAfter store places) ≡ store
+unfolding storeOf statesAfter placesAfter
+store-after [] states places same = empty-is (storeOf states places) (omega (arith, same))
+store-after (l ∷ store) [] places same = absurd (omega arith)
+store-after (l ∷ store) (a ∷ states) [] same = absurd (omega arith)
+store-after (l ∷ store) (a ∷ states) (p ∷ places) same =
+    ap (λ ls. l ∷ ls) (store-after store states places (omega arith))
+
+states-again : (store later : List Level) (states : List ℕ) → length later ≡ length store
+    → statesAfter later (statesAfter store states) ≡ statesAfter later states
+unfolding statesAfter
+states-again store later states same = rw (same, drop-at (map (λ l. l .above) store) (drop (length store) states) (length store) (length-map store _))
+
+places-again : (store later : List Level) (places : List ℕ) → length later ≡ length store
+    → placesAfter later (placesAfter store places) ≡ placesAfter later places
+unfolding placesAfter
+places-again store later places same = rw (same, drop-at (map (λ l. l .opened) store) (drop (length store) places) (length store) (length-map store _))
+
+states-length : (store : List Level) (states : List ℕ) → length store ≤ length states → length (statesAfter store states) ≡ length states
+unfolding statesAfter
+states-length store states h = simp (length-append, length-drop, length-map) (omega arith)
+
+places-length : (store : List Level) (places : List ℕ) → length store ≤ length places → length (placesAfter store places) ≡ length places
+unfolding placesAfter
+places-length store places h = simp (length-append, length-drop, length-map) (omega arith)
+
+module _ {store : List Level} {states places states′ places′ : List ℕ} (h : Holds store states places states′ places′)
+    (same : length store ≡ length (storeOf states places)) where
+  -- the store is read from them again
+  pub holds-store : storeOf states′ places′ ≡ store
+  holds-store = rw (h .holdsStates, h .holdsPlaces) (store-after store states places same)
+
+  -- and their lengths stay
+  pub holds-length : (length states′ ≡ length states) × (length places′ ≡ length places)
+  holds-length =
+      let within = store-length states places in (
+        ap length (h .holdsStates) ∙ states-length store states (omega arith),
+        ap length (h .holdsPlaces) ∙ places-length store places (omega arith),
+      )
+
+-- one store after the other
+pub holds-again : {store later : List Level} {states places states′ places′ states″ places″ : List ℕ}
+    → Holds store states places states′ places′ → Holds later states′ places′ states″ places″ → length later ≡ length store
+    → Holds later states places states″ places″
+holds-again {store} {later} {states} {places} h k same =
+    record {
+      holdsStates = k .holdsStates ∙ (rw (h .holdsStates) (states-again store later states same));
+      holdsPlaces = k .holdsPlaces ∙ (rw (h .holdsPlaces) (places-again store later places same));
+    }

@@ -47,8 +47,9 @@ pub fn feed_events(file: &[u8], rule: Rule, book: &[u64], ceiling: u32, reading:
                 at = next;
             }
             Step::Refused(refusal) => {
+                let taken = at.taken - reading.taken;
                 return Fed {
-                    taken: at.taken - reading.taken,
+                    taken,
                     reading: at,
                     ended: Feeding::Refused(refusal),
                 };
@@ -56,8 +57,9 @@ pub fn feed_events(file: &[u8], rule: Rule, book: &[u64], ceiling: u32, reading:
         }
         i += 1;
     }
+    let taken = at.taken - reading.taken;
     Fed {
-        taken: at.taken - reading.taken,
+        taken,
         reading: at,
         ended: Feeding::AllTaken,
     }
