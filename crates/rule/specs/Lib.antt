@@ -1,2 +1,4 @@
 pub mod Tables
 pub mod Says
+pub mod Checks
+pub mod Places

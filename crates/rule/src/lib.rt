@@ -1,7 +1,13 @@
 // The rule file: the four numbers of a rule, the numbers of the format, and the answers of the check and of the writer.
+mod check;
+mod layout;
 pub mod tables;
 
+use check::Outcome;
 use meaning::Refusal;
+ghost use mathlib.Core.Path.{_≡_};
+ghost use Rattle.rule.specs.Says.{checkedSays, checkAnswer};
+ghost use Rattle.rule.specs.Checks.{numbersAnswer};
 
 // The four numbers of a rule. Its tables stay in the bytes of its file, where they are read at computed offsets.
 pub struct Rule {
@@ -20,6 +26,59 @@ impl Rule {
 
     // A move or a tree start that is not there.
     pub const NONE: u8 = 255;
+
+    // The rule check: the numbers of the rule that the bytes of a file hold, or the first refusal.
+    pub fn of_file(file: &[u8]) -> Checked
+        ensures { λ r. ⌜ checkedSays r ≡ checkAnswer (now (file .entry)) ⌝ }
+    {
+        if let Outcome::Refused(refusal) = check::record_check(file, 0, 1, layout::NUMBERS) {
+            return Checked::Refused(refusal);
+        }
+        let numbers = Self::of_numbers(file[6], file[7], file[8], check::number2(file, 9));
+        let Checked::Fine(rule) = numbers else {
+            return numbers;
+        };
+        if let Outcome::Refused(refusal) = check::tables_check(file, rule) {
+            return Checked::Refused(refusal);
+        }
+        numbers
+    }
+
+    // A rule's numbers, where each is in range. The places of those that are not are the ones in its file.
+    pub fn of_numbers(states: u8, initial: u8, tree_start: u8, letters: u16) -> Checked
+        ensures { λ r. ⌜ checkedSays r ≡ numbersAnswer states initial «tree_start» letters ⌝ }
+    {
+        if !check::from_one_to(Self::MOST_STATES as u16, states as u16) {
+            return Checked::Refused(Refusal {
+                number: 4,
+                place: 6,
+            });
+        }
+        if !check::in_range(states, false, initial) {
+            return Checked::Refused(Refusal {
+                number: 4,
+                place: 7,
+            });
+        }
+        if !check::in_range(states, true, tree_start) {
+            return Checked::Refused(Refusal {
+                number: 4,
+                place: 8,
+            });
+        }
+        if !check::from_one_to(Self::MOST_LETTERS, letters) {
+            return Checked::Refused(Refusal {
+                number: 4,
+                place: 9,
+            });
+        }
+        Checked::Fine(Rule {
+            states,
+            initial,
+            tree_start,
+            letters,
+        })
+    }
 }
 
 // What the rule check answers: the rule's numbers, or a refusal.

@@ -8,7 +8,7 @@ ghost use Rattle.rule.specs.Tables.{letterByte, treeByte, classByte};
 // The bytes before the letter moves, between two tables, and of a header.
 const LETTER_MOVES: usize = 17;
 
-const HEADER: usize = 6;
+pub(crate) const HEADER: usize = 6;
 
 // The byte at a place, or none past the end.
 fn byte_or_none(file: &[u8], place: usize) -> u8
@@ -22,7 +22,7 @@ fn byte_or_none(file: &[u8], place: usize) -> u8
 }
 
 // The product of two small numbers.
-fn product(a: u16, b: u16) -> usize
+pub(crate) fn product(a: u16, b: u16) -> usize
     ensures { λ r. ⌜ (r ≡ a * b) × (r < 2 ^ 32) ⌝ }
 {
     (a as usize) * (b as usize)

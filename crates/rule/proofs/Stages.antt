@@ -1,0 +1,77 @@
+-- The rule check in the stages in which the code makes it: the first record, the four numbers, and the three tables.
+use mathlib.Core.Path.{_≡_, refl, sym, ap, _∙_}
+use mathlib.Core.Bool.{Bool, true, false}
+use mathlib.Core.List.{List, []}
+use Prim.Native.Nat.{ℕ, _+_}
+use Rattle.meaning.specs.Answers.{Answer, given, refused, refuse_at_when_otherwise_, _andThen_, _giving_}
+use Rattle.meaning.specs.RuleFile.{byteAt, number2, part, recordCheck, numbersCheck, tableCheck, isMove, isClass, isState, checkRule, ruleOf, letterRecord, headerLength, numbersLength}
+use Rattle.rule.specs.declared.Rule.{Rule}
+use Rattle.rule.specs.Says.{numbersOf, checkAnswer}
+use Rattle.rule.specs.Checks.{inRange, ruleFrom, numbersAnswer, bodyCheck, tablesCheck}
+
+-- ---- what is done with the end of a row of checks
+
+andThen-andThen : {A : Type 0} (a b : Answer Unit) (c : Answer A) → ((a andThen b) andThen c) ≡ (a andThen (b andThen c))
+unfolding _andThen_
+andThen-andThen (given u) b c = refl
+andThen-andThen (refused number place) b c = refl
+
+refuse-andThen : {A : Type 0} (number place : ℕ) (b : Bool) (rest : Answer Unit) (c : Answer A)
+    → ((refuse number at place when b otherwise rest) andThen c) ≡ (refuse number at place when b otherwise (rest andThen c))
+unfolding _andThen_ refuse_at_when_otherwise_
+refuse-andThen number place true rest c = refl
+refuse-andThen number place false rest c = refl
+
+given-andThen : {A : Type 0} (c : Answer A) → (given tt andThen c) ≡ c
+unfolding _andThen_
+given-andThen c = refl
+
+andThen-giving : {A B : Type 0} (a : Answer Unit) (b : Answer A) (f : A → Answer B) → ((a andThen b) giving f) ≡ (a andThen (b giving f))
+unfolding _andThen_ _giving_
+andThen-giving (given u) b f = refl
+andThen-giving (refused number place) b f = refl
+
+refuse-giving : {A B : Type 0} (number place : ℕ) (b : Bool) (rest : Answer A) (f : A → Answer B)
+    → ((refuse number at place when b otherwise rest) giving f) ≡ (refuse number at place when b otherwise (rest giving f))
+unfolding refuse_at_when_otherwise_ _giving_
+refuse-giving number place true rest f = refl
+refuse-giving number place false rest f = refl
+
+given-giving : {A B : Type 0} (a : A) (f : A → Answer B) → (given a giving f) ≡ f a
+unfolding _giving_
+given-giving a f = refl
+
+-- ---- one test for the numbers of every table
+
+pub move-in-range : (n : ℕ) → isMove n ≡ inRange n true
+unfolding inRange
+move-in-range n = refl
+
+pub class-in-range : isClass ≡ inRange 3 false
+unfolding inRange isState isClass
+class-in-range = refl
+
+-- the four numbers do not go by the tables
+pub numbers-alone : (n initial treeStart k : ℕ) (letterMoves treeMoves classes : List ℕ)
+    → numbersCheck (ruleFrom n initial treeStart k letterMoves treeMoves classes) ≡ numbersCheck (ruleFrom n initial treeStart k [] [] [])
+unfolding numbersCheck ruleFrom
+numbers-alone n initial treeStart k letterMoves treeMoves classes = refl
+
+numbers-of-file : (file : List ℕ)
+    → numbersCheck (ruleOf file) ≡ numbersCheck (ruleFrom (byteAt file 6) (byteAt file 7) (byteAt file 8) (number2 file 9) [] [] [])
+unfolding numbersCheck ruleFrom ruleOf
+numbers-of-file file = refl
+
+-- ---- the stages
+
+-- what is left to check once the numbers are in range
+unfoldable pub afterNumbers : List ℕ → Rule → Answer Rule
+afterNumbers file rule = tablesCheck file (rule .states) (rule .letters) andThen given rule
+
+pub check-stages : (file : List ℕ)
+    → checkAnswer file
+    ≡ (recordCheck file 0 1 numbersLength andThen
+    (numbersAnswer (byteAt file 6) (byteAt file 7) (byteAt file 8) (number2 file 9) giving afterNumbers file))
+unfolding checkAnswer checkRule ruleOf numbersAnswer ruleFrom numbersOf afterNumbers tablesCheck bodyCheck
+check-stages file =
+    simp (andThen-giving, refuse-giving, given-giving, andThen-andThen, refuse-andThen, given-andThen, move-in-range, class-in-range, numbers-of-file)

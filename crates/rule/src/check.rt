@@ -1,0 +1,138 @@
+// The single checks of a rule file: one pass over its bytes, the tables lent as parts of it.
+use crate::Rule;
+use crate::layout::LETTER_RECORD;
+use crate::layout::Layout;
+use crate::tables::HEADER;
+use meaning::Refusal;
+ghost use mathlib.Core.Path.{_≡_};
+ghost use mathlib.Core.Bool.{_&&_};
+ghost use Prim.Native.Nat.{_+_, _<_, _^_};
+ghost use lib.ListN.{length};
+ghost use Rattle.meaning.specs.Answers.{refused, _≤?_};
+ghost use Rattle.meaning.specs.RuleFile.{number2, number4, recordCheck, tableCheck};
+ghost use Rattle.rule.specs.Checks.{outcomeSays, inRange, bodyCheck, tablesCheck};
+
+// What one check answers: it passes, or a refusal.
+pub enum Outcome {
+    Passes,
+    Refused(Refusal),
+}
+
+// The classes are below this number.
+pub const CLASSES: u8 = 3;
+
+pub fn refuse(number: u8, place: usize) -> Outcome
+    ensures { λ r. ⌜ outcomeSays r ≡ refused number place ⌝ }
+{
+    Outcome::Refused(Refusal { number, place })
+}
+
+// The number that two bytes stand for.
+pub fn number2(file: &[u8], place: usize) -> u16
+    requires { ⌜ place + 1 < length (now file) ⌝ }
+    ensures { λ r. ⌜ r ≡ number2 (now (file .entry)) place ⌝ }
+{
+    file[place] as u16 + ((file[place + 1] as u16) << 8)
+}
+
+// The number that four bytes stand for.
+fn number4(file: &[u8], place: usize) -> u32
+    requires { ⌜ place + 3 < length (now file) ⌝ }
+    ensures { λ r. ⌜ r ≡ number4 (now (file .entry)) place ⌝ }
+{
+    number2(file, place) as u32 + ((number2(file, place + 2) as u32) << 16)
+}
+
+// A count is from 1 to its most.
+pub fn from_one_to(most: u16, x: u16) -> bool
+    ensures { λ r. ⌜ r ≡ (1 ≤? x && x ≤? most) ⌝ }
+{
+    1 <= x && x <= most
+}
+
+// A number is below a bound, or none where that is allowed.
+pub fn in_range(below: u8, none: bool, x: u8) -> bool
+    ensures { λ r. ⌜ r ≡ inRange below none x ⌝ }
+{
+    x < below || none && x == Rule::NONE
+}
+
+// One record that stands at a place, of a kind and with a body of so many bytes.
+pub fn record_check(file: &[u8], place: usize, kind: u16, size: usize) -> Outcome
+    requires { ⌜ place + size < 2 ^ 60 ⌝ }
+    ensures { λ r. ⌜ outcomeSays r ≡ recordCheck (now (file .entry)) place kind size ⌝ }
+{
+    let count = file.len();
+    if count < place + HEADER {
+        return refuse(1, count);
+    }
+    if number2(file, place + 4) != kind {
+        return refuse(2, place + 4);
+    }
+    if number4(file, place) as usize != size {
+        return refuse(3, place);
+    }
+    if count < place + HEADER + size {
+        return refuse(1, count);
+    }
+    Outcome::Passes
+}
+
+// The numbers of a table that stands at a place, the first bad one first.
+pub fn table_check(body: &[u8], place: usize, below: u8, none: bool) -> Outcome
+    requires { ⌜ place < 2 ^ 60 ⌝ }
+    ensures { λ r. ⌜ outcomeSays r ≡ tableCheck (inRange below none) place (now (body .entry)) ⌝ }
+{
+    let mut i = 0;
+    while i < body.len() {
+        if !in_range(below, none, body[i]) {
+            return refuse(4, place + i);
+        }
+        i += 1;
+    }
+    Outcome::Passes
+}
+
+// One record that stands at a place, and then the numbers in its body.
+fn body_check(file: &[u8], place: usize, kind: u16, size: usize, below: u8, none: bool) -> Outcome
+    requires { ⌜ place + size < 2 ^ 59 ⌝ }
+    ensures { λ r. ⌜ outcomeSays r ≡ bodyCheck (now (file .entry)) place kind size below none ⌝ }
+{
+    let whole = record_check(file, place, kind, size);
+    if let Outcome::Refused(_) = whole {
+        return whole;
+    }
+    let start = place + HEADER;
+    let end = start + size;
+    table_check(&file[start..end], start, below, none)
+}
+
+// The three tables of a file whose numbers are in range, and nothing after them.
+pub fn tables_check(file: &[u8], rule: Rule) -> Outcome
+    ensures { λ r. ⌜ outcomeSays r ≡ tablesCheck (now (file .entry)) (rule .states) (rule .letters) ⌝ }
+{
+    let at = Layout::of(rule.states, rule.letters);
+    let letters = body_check(file, LETTER_RECORD, 2, at.letter_moves, rule.states, true);
+    if let Outcome::Refused(_) = letters {
+        return letters;
+    }
+    let trees = body_check(file, at.tree_record, 3, at.tree_moves, rule.states, true);
+    if let Outcome::Refused(_) = trees {
+        return trees;
+    }
+    let classes = body_check(
+        file,
+        at.class_record,
+        4,
+        rule.states as usize,
+        CLASSES,
+        false,
+    );
+    if let Outcome::Refused(_) = classes {
+        return classes;
+    }
+    if at.count < file.len() {
+        return refuse(5, at.count);
+    }
+    Outcome::Passes
+}
