@@ -2,3 +2,4 @@ pub mod Turned
 pub mod Store
 pub mod Steps
 pub mod Going
+pub mod Checks

@@ -1,3 +1,4 @@
 pub mod Turns
 pub mod Store
 pub mod Feeding
+pub mod Checks

@@ -20,7 +20,7 @@ pub fn room(states: &[u8], places: &[u32]) -> usize
 }
 
 // The record at an index of the store.
-fn level_at(states: &[u8], places: &[u32], index: usize) -> Level
+pub fn level_at(states: &[u8], places: &[u32], index: usize) -> Level
     requires { ⌜ index < length (storeOf (now states) (now places)) ⌝ }
     ensures { λ r. ⌜ r ≡ getD (storeOf (now (states .entry)) (now (places .entry))) index blank ⌝ }
 {

@@ -1,4 +1,5 @@
 // The reading of events: what one event leads to, by value, and the calls over the lent level store.
+mod checking;
 mod feeding;
 mod levels;
 mod settling;
@@ -20,5 +21,11 @@ pub enum Turn {
 // What becomes of an event that is handed to a reading over a level store: the next reading, or a refusal.
 pub enum Step {
     To(Reading),
+    Refused(Refusal),
+}
+
+// What a fresh reading answers: the reading, or the refusal of the rule.
+pub enum Begun {
+    At(Reading),
     Refused(Refusal),
 }
