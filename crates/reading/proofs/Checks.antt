@@ -16,11 +16,11 @@ use Rattle.meaning.specs.declared.Reading.{Reading}
 use Rattle.meaning.specs.declared.Refusal.{Refusal}
 use Rattle.meaning.proofs.Accepted.{accepted-rule}
 use Rattle.meaning.proofs.Answered.{refuse-stops, refuse-passes, giving-given, giving-passes, giving-stops}
-use Rattle.meaning.proofs.ReadingCheck.{check-says}
+use Rattle.meaning.proofs.ReadingCheck.{check-says, check-passes}
 use Rattle.rule.specs.Says.{numbersOf, checkedSays, checkAnswer}
 use Rattle.rule.specs.declared.Rule.{Rule}
 use Rattle.rule.specs.declared.Checked.the-variants as checked
-use Rattle.rule.proofs.Said.{fine-accepted}
+use Rattle.rule.proofs.Said.{fine-accepted, giving-refused}
 use Rattle.reading.specs.Turns.{RuleOf}
 use Rattle.reading.specs.Feeding.{Feeds}
 use Rattle.reading.specs.Checks.{readingAnswer}
@@ -61,3 +61,37 @@ module _ (file book : List ℕ) (r : Reading) (store : List Level) where
           giving-passes _
           (giving-passes _ (h .accepted) ∙ (refuse-passes 6 0 _ (le-ltb (length book) (ruleOf file .states + 1) (omega (arith, states-are h))) ∙ refuse-passes 13 0 _ isNot))
           ∙ ap given (h .numbers)
+
+  -- ---- what the answer says to the caller
+
+  -- the check passed
+  pub fine-feeds : (rule : Rule) → checkedSays (checked.Fine rule) ≡ readingAnswer file book r store → Feeds file rule book r store
+  unfolding checkedSays readingAnswer numbersOf
+  fine-feeds rule e =
+      let g = giving-given (readingCheck file book r store) (λ R. given (numbersOf R)) (sym e) in
+      let c = check-says file book r store (g .1) in
+      let same = accepted-rule file (c .accepted) in
+      let numbers : numbersOf (g .0) ≡ rule = cc (g .2) in
+      let states : g .0 .states ≡ rule .states = ap (λ (n : Rule). n .states) numbers in
+      record {
+        ruled = record { accepted = rw same (c .accepted); numbers = rw same numbers };
+        bookLong = omega (arith, c .longEnough);
+        isReading = rw same (c .isReading);
+      }
+
+  pub fine-passes : (rule : Rule) → checkedSays (checked.Fine rule) ≡ readingAnswer file book r store
+      → readingCheck file book r store ≡ given (ruleOf file)
+  fine-passes rule e =
+      let h = fine-feeds rule e in
+      check-passes file book r store
+      (record {
+        accepted = h .ruled .accepted;
+        longEnough = omega (arith, h .bookLong, states-are (h .ruled));
+        isReading = h .isReading;
+      })
+
+  -- the check was refused
+  pub refused-reads : (f : Refusal) → checkedSays (checked.Refused f) ≡ readingAnswer file book r store
+      → readingCheck file book r store ≡ refused (f .number) (f .place)
+  unfolding checkedSays readingAnswer refusalSays
+  refused-reads f e = giving-refused (readingCheck file book r store) _ _ _ (λ R. (numbersOf R, refl)) (sym e)

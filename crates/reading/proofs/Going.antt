@@ -15,6 +15,7 @@ use Rattle.meaning.specs.FullReading.{Event, Turn, Went, looked, goOn, feedBy}
 use Rattle.meaning.specs.Skipping.{passed}
 use Rattle.meaning.specs.Calls.{Stored, storedAfter, storeStep, refusalSays, feedingSays}
 use Rattle.meaning.specs.declared.Fed.{Fed}
+use Rattle.meaning.specs.declared.Feeding.{Feeding}
 use Rattle.meaning.specs.declared.Feeding.the-variants as feeding
 use Rattle.meaning.specs.declared.Level.{Level}
 use Rattle.meaning.specs.declared.Reading.{Reading}
@@ -46,6 +47,15 @@ module _ {A : Type 0} (step : A → ℕ → Answer A) where
   feed-none : (a : A) → feedBy step a [] ≡ record { last = a; ended = given tt }
   unfolding feedBy
   feed-none a = refl
+
+-- ---- the answer, from where feeding led to
+
+pub fed-is : {w : Went Stored} (start r : Reading) (store : List Level) (x : Answer Unit) (taken : ℕ) (ended : Feeding)
+    {states places states′ places′ : List ℕ} → w ≡ record { last = over r store; ended = x } → feedingSays ended ≡ x
+    → taken ≡ r .taken - start .taken → Holds store states places states′ places′
+    → FedIs w start (record { taken = taken; reading = r; ended = ended }) states places states′ places′
+fed-is start r store x taken ended came says counts holds =
+    record { readingIs = rw came; endedIs = rw came says; takenIs = rw came counts; holds = rw came holds }
 
 -- ---- an event that is taken is one more
 
@@ -96,7 +106,7 @@ module _ (file : List ℕ) (rule : Rule) (book : List ℕ) (ceiling : ℕ) (star
     unfolding feedingSays
     going-ends h =
         let came : wholeFeed ≡ record { last = over r (storeOf states′ places′); ended = given tt } = sym (g .rest) ∙ rw (drop-of-length-le events h) (feed-none _ _) in
-        record { readingIs = rw came; endedIs = rw came; takenIs = rw came; holds = rw came (g .holds) }
+        fed-is start r _ _ _ _ came refl refl (g .holds)
 
     -- the slices keep their lengths
     pub going-length : (length states′ ≡ length states) × (length places′ ≡ length places)
@@ -120,7 +130,7 @@ module _ (file : List ℕ) (rule : Rule) (book : List ℕ) (ceiling : ℕ) (star
           let said : answered ≡ refused (f .number) (f .place) = sym (s .answer) in
           let came : wholeFeed ≡ record { last = before; ended = refused (f .number) (f .place) } = sym next-first ∙ feed-refused _ _ said in
           let left : Holds (storeOf states′ places′) states′ places′ states″ places″ = rw (said, storeAfter) at (s .holds) in
-          record { readingIs = rw came; endedIs = rw came; takenIs = rw came; holds = rw came (holds-again (g .holds) left refl) }
+          fed-is start r _ _ _ _ came refl refl (holds-again (g .holds) left refl)
 
       -- the next event was taken
       pub going-on : {states″ places″ : List ℕ} (next : Reading) → Stepped answered (step.To next) states′ places′ states″ places″

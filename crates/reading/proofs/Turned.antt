@@ -9,7 +9,7 @@ use borrow.Author.Tests.{eq-eqb, ne-eqb, leb-true, lt-leb, ltb-true}
 use lib.ListN.{length}
 use Rattle.meaning.specs.Answers.{Answer, given, refused, if_then_else_, _≤?_, _<?_}
 use Rattle.meaning.specs.RuleFile as format
-use Rattle.meaning.specs.RuleFile.{none, mostStates, mostLetters, asMove, isStates, isLetters, ruleOf, to, noMove, treeStartMove}
+use Rattle.meaning.specs.RuleFile.{none, mostStates, mostLetters, classCount, asMove, classOf, isClass, isStates, isLetters, ruleOf, to, noMove, treeStartMove}
 use Rattle.meaning.specs.FullReading.{Event, opens, closes, letter, eventOf, mostEvents, knownEvent, Table, letterTable, startTable, treeTable, noMoveNumber, look, looked, opened, fullTurn, Turn, stays, stores, ends}
 use Rattle.meaning.specs.SkipBook.{inHold}
 use Rattle.meaning.specs.Skipping.{held}
@@ -17,8 +17,8 @@ use Rattle.meaning.specs.declared.Reading.{Reading}
 use Rattle.meaning.specs.declared.Level.{Level}
 use Rattle.meaning.proofs.Answered.{if-true, if-false, and-true, refuse-passes}
 use Rattle.meaning.proofs.Accepted.{accepted-is-rule}
-use Rattle.rule.proofs.Looks.{letter-look, tree-look}
-use Rattle.rule.specs.Tables.{letterByte, treeByte}
+use Rattle.rule.proofs.Looks.{letter-look, tree-look, class-look}
+use Rattle.rule.specs.Tables.{letterByte, treeByte, classByte}
 use Rattle.rule.specs.Says.{numbersOf}
 use Rattle.rule.specs.declared.Rule.{Rule}
 use Rattle.reading.specs.Turns.{RuleOf, StatesIn, BookServes}
@@ -72,6 +72,10 @@ module _ {file : List ℕ} {rule : Rule} (h : RuleOf file rule) where
   unfolding numbersOf
   tree-start-is = ap (λ (n : Rule). n .«tree_start») (h .numbers)
 
+  pub initial-is : ruleOf file .initial ≡ rule .initial
+  unfolding numbersOf
+  initial-is = ap (λ (n : Rule). n .initial) (h .numbers)
+
   pub few-states : rule .states ≤ 64
   unfolding isStates
   few-states =
@@ -85,6 +89,15 @@ module _ {file : List ℕ} {rule : Rule} (h : RuleOf file rule) where
       let k : ℕ = ruleOf file .letters in
       let in-range = and-true (1 ≤? k) (k ≤? mostLetters) (accepted-is-rule file (h .accepted) .lettersIn) in
       omega (arith, letters-are, leb-true k mostLetters (in-range .1))
+
+  -- ---- the class of a state is the one in the file, and one of the three
+
+  pub class-is : (q : ℕ) → q < rule .states → classByte file (rule .states) (rule .letters) q ≡ classOf (ruleOf file) q
+  class-is q hq = rw (← states-are, ← letters-are) (class-look file (h .accepted) q (omega (arith, states-are)))
+
+  pub class-in : (q : ℕ) → q < rule .states → classOf (ruleOf file) q < classCount
+  unfolding classOf isClass
+  class-in q hq = ltb-true _ _ (accepted-is-rule file (h .accepted) .classIn q (omega (arith, states-are)))
 
   -- ---- an event that is within the limit and known is taken as its turn says
 
