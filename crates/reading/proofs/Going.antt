@@ -13,7 +13,7 @@ use Rattle.meaning.specs.RuleFile as format
 use Rattle.meaning.specs.RuleFile.{ruleOf}
 use Rattle.meaning.specs.FullReading.{Event, Turn, Went, looked, goOn, feedBy}
 use Rattle.meaning.specs.Skipping.{passed}
-use Rattle.meaning.specs.Calls.{Stored, storedAfter, storeStep, refusalSays, feedingSays}
+use Rattle.meaning.specs.Calls.{Stored, topOf, storedAfter, storeStep, refusalSays, feedingSays}
 use Rattle.meaning.specs.declared.Fed.{Fed}
 use Rattle.meaning.specs.declared.Feeding.{Feeding}
 use Rattle.meaning.specs.declared.Feeding.the-variants as feeding
@@ -21,7 +21,7 @@ use Rattle.meaning.specs.declared.Level.{Level}
 use Rattle.meaning.specs.declared.Reading.{Reading}
 use Rattle.meaning.specs.declared.Refusal.{Refusal}
 use Rattle.meaning.proofs.Accepted.{accepted-is-rule}
-use Rattle.meaning.proofs.StillReading.{still-reading}
+use Rattle.meaning.proofs.StillReading.{IsReading, reading-is, still-reading}
 use Rattle.meaning.proofs.StoreView.{step-turned, step-within}
 use Rattle.meaning.proofs.Turns.{Turned, passes, endsHeld, takesLetter, storesOpen, endsLooked}
 use Rattle.rule.specs.declared.Rule.{Rule}
@@ -29,24 +29,12 @@ use Rattle.reading.specs.declared.Step.{Step}
 use Rattle.reading.specs.declared.Step.the-variants as step
 use Rattle.reading.specs.Store.{storeOf, Holds}
 use Rattle.reading.specs.Feeding.{Feeds, over, stepSays, storeAfter, Stepped, FedIs}
+use Rattle.reading.specs.PassingOver.{passedOn, PassesOver}
+use Rattle.reading.specs.declared.PassedOver.{PassedOver}
 use Rattle.reading.proofs.Store.{holds-same, holds-store, holds-again, holds-length}
-use Rattle.reading.proofs.Steps.{reading-in}
-
--- ---- feeding a first event, or none
-
-module _ {A : Type 0} (step : A → ℕ → Answer A) where
-  feed-taken : {a b : A} {e : ℕ} (es : List ℕ) → step a e ≡ given b → feedBy step a (e ∷ es) ≡ feedBy step b es
-  unfolding feedBy goOn
-  feed-taken es t = rw (t, goOn)
-
-  feed-refused : {a : A} {e number place : ℕ} (es : List ℕ) → step a e ≡ refused number place
-      → feedBy step a (e ∷ es) ≡ record { last = a; ended = refused number place }
-  unfolding feedBy goOn
-  feed-refused es t = rw (t, goOn)
-
-  feed-none : (a : A) → feedBy step a [] ≡ record { last = a; ended = given tt }
-  unfolding feedBy
-  feed-none a = refl
+use Rattle.reading.proofs.PassesOn.{on-settled}
+use Rattle.reading.proofs.Turned.{letters-are}
+use Rattle.reading.proofs.Steps.{reading-in, feed-taken, feed-refused, feed-none}
 
 -- ---- the answer, from where feeding led to
 
@@ -111,6 +99,36 @@ module _ (file : List ℕ) (rule : Rule) (book : List ℕ) (ceiling : ℕ) (star
     -- the slices keep their lengths
     pub going-length : (length states′ ≡ length states) × (length places′ ≡ length places)
     going-length = holds-length (g .holds) (g .sameRoom)
+
+    -- a run of events was passed over
+    pub going-passed : (p : PassedOver) → PassesOver (rule .letters) book r (topOf r (storeOf states′ places′)) events i p
+        → Going (p .reading) states′ places′ (p .next)
+    unfolding passedOn
+    going-passed p h =
+        let store : List Level = storeOf states′ places′ in
+        let was = reading-in (g .feeds) in
+        let after : Reading = passedOn r (p .reading .skip) (p .next - i) in
+        let is : IsReading (ruleOf file) book after store =
+            record {
+              stateIn = was .stateIn;
+              within = was .within;
+              aboveIn = was .aboveIn;
+              skipsSettled = λ deep. on-settled book r store _ _ (h .staysSettled (was .skipsSettled) deep);
+              nested = h .nested;
+              looksIn = omega (arith, was .looksIn);
+            } in
+        record {
+          within = h .within;
+          feeds = record {
+            ruled = g .feeds .ruled;
+            bookLong = g .feeds .bookLong;
+            isReading = rw (h .same) (reading-is (ruleOf file) book after store is);
+          };
+          sameRoom = g .sameRoom;
+          holds = g .holds;
+          more = rw (h .same) (omega (arith, g .more));
+          rest = sym (h .feeds (ruleOf file) ceiling store (letters-are (g .feeds .ruled)) refl) ∙ g .rest;
+        }
 
     module _ (inside : i < length events) where
       abbrev before : Stored

@@ -3,3 +3,4 @@ pub mod Store
 pub mod Steps
 pub mod Going
 pub mod Checks
+pub mod PassesOn

@@ -4,6 +4,7 @@ use crate::Turn;
 use crate::levels::put_level;
 use crate::levels::room;
 use crate::levels::top_level;
+use crate::passing::pass_settled;
 use crate::turns::skip_event;
 use meaning::Fed;
 use meaning::Feeding;
@@ -33,7 +34,8 @@ fn take_event(file: &[u8], rule: Rule, book: &[u64], ceiling: u32, reading: Read
     }
 }
 
-// All events, one after the other, until one is refused.
+// All events, one after the other, until one is refused. Where an event leads to a settled level, what can be passed over
+// there is taken at once.
 pub fn feed_events(file: &[u8], rule: Rule, book: &[u64], ceiling: u32, reading: Reading, states: &mut [u8], places: &mut [u32], events: &[u16]) -> Fed
     requires { ⌜ Feeds (now file) rule (now book) reading (storeOf (now states) (now places)) ⌝ }
     ensures { λ r. ⌜ FedIs (feedBy (storeStep (ruleOf (now (file .entry))) (now (book .entry)) ceiling) (over reading (storeOf (now (states .entry)) (now (places .entry)))) (now (events .entry))) reading r (now (states .entry)) (now (places .entry)) (now (states .exit)) (now (places .exit)) ⌝ }
@@ -44,7 +46,10 @@ pub fn feed_events(file: &[u8], rule: Rule, book: &[u64], ceiling: u32, reading:
         let event = events[i];
         match take_event(file, rule, book, ceiling, at, states, places, event) {
             Step::To(next) => {
-                at = next;
+                let top = top_level(states, places, next);
+                let passed = pass_settled(rule.letters, book, next, top, events, i + 1);
+                at = passed.reading;
+                i = passed.next;
             }
             Step::Refused(refusal) => {
                 let taken = at.taken - reading.taken;
@@ -55,7 +60,6 @@ pub fn feed_events(file: &[u8], rule: Rule, book: &[u64], ceiling: u32, reading:
                 };
             }
         }
-        i += 1;
     }
     let taken = at.taken - reading.taken;
     Fed {

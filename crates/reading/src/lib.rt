@@ -3,6 +3,7 @@ mod checking;
 mod ending;
 mod feeding;
 mod levels;
+mod passing;
 mod settling;
 mod turns;
 
@@ -37,6 +38,12 @@ pub enum Turn {
 pub enum Step {
     To(Reading),
     Refused(Refusal),
+}
+
+// Where passing over a run of events was left: the reading there, and the index of the next event.
+pub struct PassedOver {
+    pub reading: Reading,
+    pub next: usize,
 }
 
 // What a fresh reading answers: the reading, or the refusal of the rule.

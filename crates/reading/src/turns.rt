@@ -22,7 +22,7 @@ ghost use Rattle.meaning.specs.Skipping.{endsLevel, settledTurn, skipEvent};
 ghost use Rattle.reading.specs.Turns.{turnSays, RuleOf, OneMore, StatesIn, Ready};
 
 // The most events that a reading takes.
-const MOST_EVENTS: u32 = 4294967295;
+pub const MOST_EVENTS: u32 = 4294967295;
 
 // The refusal where each table has no move.
 const NO_LETTER_MOVE: u8 = 11;
