@@ -109,14 +109,14 @@ module _ (file : List ℕ) (rule : Rule) (book : List ℕ) (ceiling : ℕ) (star
         let was = reading-in (g .feeds) in
         let after : Reading = passedOn r (p .reading .skip) (p .next - i) in
         let is : IsReading (ruleOf file) book after store =
-            record {
-              stateIn = was .stateIn;
-              within = was .within;
-              aboveIn = was .aboveIn;
-              skipsSettled = λ deep. on-settled book r store _ _ (h .staysSettled (was .skipsSettled) deep);
-              nested = h .nested;
-              looksIn = omega (arith, was .looksIn);
-            } in
+        record {
+          stateIn = was .stateIn;
+          within = was .within;
+          aboveIn = was .aboveIn;
+          skipsSettled = λ deep. on-settled book r store _ _ (h .staysSettled (was .skipsSettled) deep);
+          nested = h .nested;
+          looksIn = omega (arith, was .looksIn);
+        } in
         record {
           within = h .within;
           feeds = record {

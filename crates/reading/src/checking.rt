@@ -72,7 +72,13 @@ fn not_reading(n: u8, book: &[u64], reading: Reading, states: &[u8], places: &[u
 }
 
 // The rule, 6, 13.
-pub fn reading_check(file: &[u8], book: &[u64], reading: Reading, states: &[u8], places: &[u32]) -> Checked
+pub fn reading_check(
+    file: &[u8],
+    book: &[u64],
+    reading: Reading,
+    states: &[u8],
+    places: &[u32],
+) -> Checked
     ensures { λ r. ⌜ checkedSays r ≡ readingAnswer (now (file .entry)) (now (book .entry)) reading (storeOf (now (states .entry)) (now (places .entry))) ⌝ }
 {
     match Rule::of_file(file) {

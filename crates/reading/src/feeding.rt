@@ -18,12 +18,30 @@ ghost use Rattle.reading.specs.Store.{storeOf};
 ghost use Rattle.reading.specs.Feeding.{Feeds, over, Stepped, FedIs};
 
 // One event: what its turn says becomes of the reading, and of the store.
-fn take_event(file: &[u8], rule: Rule, book: &[u64], ceiling: u32, reading: Reading, states: &mut [u8], places: &mut [u32], event: u16) -> Step
+fn take_event(
+    file: &[u8],
+    rule: Rule,
+    book: &[u64],
+    ceiling: u32,
+    reading: Reading,
+    states: &mut [u8],
+    places: &mut [u32],
+    event: u16,
+) -> Step
     requires { ⌜ Feeds (now file) rule (now book) reading (storeOf (now states) (now places)) ⌝ }
     ensures { λ r. ⌜ Stepped (storeStep (ruleOf (now (file .entry))) (now (book .entry)) ceiling (over reading (storeOf (now (states .entry)) (now (places .entry)))) event) r (now (states .entry)) (now (places .entry)) (now (states .exit)) (now (places .exit)) ⌝ }
 {
     let top = top_level(states, places, reading);
-    match skip_event(file, rule, book, room(states, places), ceiling, reading, top, event) {
+    match skip_event(
+        file,
+        rule,
+        book,
+        room(states, places),
+        ceiling,
+        reading,
+        top,
+        event,
+    ) {
         Turn::Stays(next) => Step::To(next),
         Turn::Ends(next) => Step::To(next),
         Turn::Refused(refusal) => Step::Refused(refusal),
@@ -36,7 +54,16 @@ fn take_event(file: &[u8], rule: Rule, book: &[u64], ceiling: u32, reading: Read
 
 // All events, one after the other, until one is refused. Where an event leads to a settled level, what can be passed over
 // there is taken at once.
-pub fn feed_events(file: &[u8], rule: Rule, book: &[u64], ceiling: u32, reading: Reading, states: &mut [u8], places: &mut [u32], events: &[u16]) -> Fed
+pub fn feed_events(
+    file: &[u8],
+    rule: Rule,
+    book: &[u64],
+    ceiling: u32,
+    reading: Reading,
+    states: &mut [u8],
+    places: &mut [u32],
+    events: &[u16],
+) -> Fed
     requires { ⌜ Feeds (now file) rule (now book) reading (storeOf (now states) (now places)) ⌝ }
     ensures { λ r. ⌜ FedIs (feedBy (storeStep (ruleOf (now (file .entry))) (now (book .entry)) ceiling) (over reading (storeOf (now (states .entry)) (now (places .entry)))) (now (events .entry))) reading r (now (states .entry)) (now (places .entry)) (now (states .exit)) (now (places .exit)) ⌝ }
 {

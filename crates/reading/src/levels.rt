@@ -54,7 +54,10 @@ pub fn top_level(states: &[u8], places: &[u32], reading: Reading) -> Level
     ensures { λ r. ⌜ r ≡ topOf reading (storeOf (now (states .entry)) (now (places .entry))) ⌝ }
 {
     if room(states, places) == 0 {
-        return Level { above: 0, opened: 0 };
+        return Level {
+            above: 0,
+            opened: 0,
+        };
     }
     level_at(states, places, one_less(reading.depth))
 }

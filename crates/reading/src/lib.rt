@@ -69,11 +69,28 @@ pub fn fresh(file: &[u8]) -> Begun
 }
 
 // Feed events to a reading, over the lent level store. The rule check is once a call.
-pub fn feed(file: &[u8], book: &[u64], ceiling: u32, reading: Reading, states: &mut [u8], places: &mut [u32], events: &[u16]) -> Fed
+pub fn feed(
+    file: &[u8],
+    book: &[u64],
+    ceiling: u32,
+    reading: Reading,
+    states: &mut [u8],
+    places: &mut [u32],
+    events: &[u16],
+) -> Fed
     ensures { λ r. ⌜ FedIs (feedCall (now (file .entry)) (now (book .entry)) ceiling reading (storeOf (now (states .entry)) (now (places .entry))) (now (events .entry))) reading r (now (states .entry)) (now (places .entry)) (now (states .exit)) (now (places .exit)) ⌝ }
 {
     match reading_check(file, book, reading, states, places) {
-        Checked::Fine(rule) => feed_events(file, rule, book, ceiling, reading, states, places, events),
+        Checked::Fine(rule) => feed_events(
+            file,
+            rule,
+            book,
+            ceiling,
+            reading,
+            states,
+            places,
+            events,
+        ),
         Checked::Refused(refusal) => Fed {
             taken: 0,
             reading,

@@ -18,22 +18,14 @@ ghost use Rattle.reading.specs.PassingOver.{openings, closings, passedOn
 fn openings(event: u16) -> u32
     ensures { λ r. ⌜ r ≡ openings event ⌝ }
 {
-    if event == 0 {
-        1
-    } else {
-        0
-    }
+    if event == 0 { 1 } else { 0 }
 }
 
 // How many trees an event closes.
 fn closings(event: u16) -> u32
     ensures { λ r. ⌜ r ≡ closings event ⌝ }
 {
-    if event == 1 {
-        1
-    } else {
-        0
-    }
+    if event == 1 { 1 } else { 0 }
 }
 
 // How far the events go that a reading can still take: to their end, or to the event limit.
@@ -91,7 +83,14 @@ fn pass_over(letters: u16, reading: Reading, events: &[u16], from: usize) -> Pas
 }
 
 // What can be passed over from here: nothing, unless the level is settled.
-pub fn pass_settled(letters: u16, book: &[u64], reading: Reading, top: Level, events: &[u16], from: usize) -> PassedOver
+pub fn pass_settled(
+    letters: u16,
+    book: &[u64],
+    reading: Reading,
+    top: Level,
+    events: &[u16],
+    from: usize,
+) -> PassedOver
     requires { ⌜ BookServes (now book) reading top ⌝ ∗ ⌜ Counted reading ⌝ ∗ ⌜ letters ≤ 256 ⌝ ∗ ⌜ from ≤ length (now events) ⌝ }
     ensures { λ r. ⌜ PassesOver letters (now (book .entry)) reading top (now (events .entry)) from r ⌝ }
 {

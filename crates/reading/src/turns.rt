@@ -125,7 +125,14 @@ fn full_close(file: &[u8], rule: Rule, ceiling: u32, reading: Reading, top: Leve
 }
 
 // A close on a settled level at skip depth zero, which ends the level.
-fn ends_level(file: &[u8], rule: Rule, book: &[u64], ceiling: u32, reading: Reading, top: Level) -> Turn
+fn ends_level(
+    file: &[u8],
+    rule: Rule,
+    book: &[u64],
+    ceiling: u32,
+    reading: Reading,
+    top: Level,
+) -> Turn
     requires { ⌜ Ready (now file) rule (now book) reading top ⌝ ∗ ⌜ OneMore reading ⌝ }
     ensures { λ r. ⌜ ((room : ℕ) → turnSays r ≡ endsLevel (ruleOf (now (file .entry))) (now (book .entry)) room ceiling reading top) ⌝ }
 {
@@ -136,7 +143,15 @@ fn ends_level(file: &[u8], rule: Rule, book: &[u64], ceiling: u32, reading: Read
 }
 
 // An event that stands on a settled level: nothing is looked up until the close that ends the level.
-fn settled_turn(file: &[u8], rule: Rule, book: &[u64], ceiling: u32, reading: Reading, top: Level, event: u16) -> Turn
+fn settled_turn(
+    file: &[u8],
+    rule: Rule,
+    book: &[u64],
+    ceiling: u32,
+    reading: Reading,
+    top: Level,
+    event: u16,
+) -> Turn
     requires { ⌜ Ready (now file) rule (now book) reading top ⌝ ∗ ⌜ OneMore reading ⌝ }
     ensures { λ r. ⌜ ((room : ℕ) → turnSays r ≡ settledTurn (ruleOf (now (file .entry))) (now (book .entry)) room ceiling reading top (eventOf event)) ⌝ }
 {
@@ -153,7 +168,15 @@ fn settled_turn(file: &[u8], rule: Rule, book: &[u64], ceiling: u32, reading: Re
 }
 
 // An event in full reading.
-fn full_turn(file: &[u8], rule: Rule, room: usize, ceiling: u32, reading: Reading, top: Level, event: u16) -> Turn
+fn full_turn(
+    file: &[u8],
+    rule: Rule,
+    room: usize,
+    ceiling: u32,
+    reading: Reading,
+    top: Level,
+    event: u16,
+) -> Turn
     requires { ⌜ RuleOf (now file) rule ⌝ ∗ ⌜ OneMore reading ⌝ ∗ ⌜ StatesIn rule reading top ⌝ ∗ ⌜ event < rule .letters + 2 ⌝ }
     ensures { λ r. ⌜ turnSays r ≡ fullTurn (ruleOf (now (file .entry))) room ceiling reading top (eventOf event) ⌝ }
 {
@@ -167,7 +190,16 @@ fn full_turn(file: &[u8], rule: Rule, room: usize, ceiling: u32, reading: Readin
 }
 
 // An event: the event limit and the known letters, and then what the settled level or full reading makes of it.
-pub fn skip_event(file: &[u8], rule: Rule, book: &[u64], room: usize, ceiling: u32, reading: Reading, top: Level, event: u16) -> Turn
+pub fn skip_event(
+    file: &[u8],
+    rule: Rule,
+    book: &[u64],
+    room: usize,
+    ceiling: u32,
+    reading: Reading,
+    top: Level,
+    event: u16,
+) -> Turn
     requires { ⌜ Ready (now file) rule (now book) reading top ⌝ }
     ensures { λ r. ⌜ turnSays r ≡ skipEvent (ruleOf (now (file .entry))) (now (book .entry)) room ceiling reading top event ⌝ }
 {

@@ -53,7 +53,7 @@ loop-again c =
     let read = c .before .before .level-at in (
       omega arith,
       λ j h. below {P = λ j. isState (a .n) (getD (storeOf (now (a .states)) (now (a .places))) j blank .above) ≡ true} i j (omega arith) (c .before .before .before .before .loop .inv .1)
-      (rw (← read .ensures) (lt-ltb _ _ (c .if1 .left))),
+          (rw (← read .ensures) (lt-ltb _ _ (c .if1 .left))),
     )
 
 returns-2 : tie.Need-returns-2 Inv-loop μ-loop

@@ -81,7 +81,7 @@ skips-unsettled-requires c κs =
     let q : s .args .reading .state < s .args .n = c .before .before .before .before .before .before .if1 .left in
     let d : ℕ = s .args .reading .depth in
     let above : (inside : 0 < d) → getD (storeAt s) (d - 1) blank .above < s .args .n =
-        λ inside. ltb-true _ _ (all-below d _ (aboves-in (c .before)) (d - 1) (omega arith)) in
+    λ inside. ltb-true _ _ (all-below d _ (aboves-in (c .before)) (d - 1) (omega arith)) in
     rw (c .top-level .ensures)
     (record {
       stateBit = omega (arith, s .pre);
