@@ -1,39 +1,65 @@
 -- Laws of one event, which the proofs of the functions cite: what a look in a table gives, which event a number is, and that
 -- the numbers the code holds are those of the rule.
 use mathlib.Core.Path.{_≡_, refl, sym, ap, _∙_}
-use mathlib.Core.Bool.{Bool, true, false}
+use mathlib.Core.Bool.{Bool, true, false, _||_}
 use mathlib.Core.List.{List}
 use Prim.Native.Nat.{ℕ, zero, suc, _+_, _-_, _≤_, _<_}
 use native.Mathlib.Omega.{arith}
 use borrow.Author.Tests.{eq-eqb, ne-eqb, leb-true, lt-leb, ltb-true}
 use lib.ListN.{length}
-use Rattle.meaning.specs.Answers.{Answer, given, refused, if_then_else_, _≤?_, _<?_}
+use Rattle.meaning.specs.Answers.{Answer, given, refused, refuse_at_when_otherwise_, if_then_else_, _≤?_, _<?_, _=?_}
 use Rattle.meaning.specs.RuleFile as format
 use Rattle.meaning.specs.RuleFile.{none, mostStates, mostLetters, classCount, asMove, classOf, isClass, isStates, isLetters, ruleOf, to, noMove, treeStartMove}
 use Rattle.meaning.specs.FullReading.{Event, opens, closes, letter, eventOf, mostEvents, knownEvent, Table, letterTable, startTable, treeTable, noMoveNumber, look, looked, opened, fullTurn, Turn, stays, stores, ends}
-use Rattle.meaning.specs.SkipBook.{inHold}
-use Rattle.meaning.specs.Skipping.{held}
+use Rattle.meaning.specs.SkipBook.{inStill, inHold}
+use Rattle.meaning.specs.Skipping.{held, settled}
 use Rattle.meaning.specs.declared.Reading.{Reading}
 use Rattle.meaning.specs.declared.Level.{Level}
 use Rattle.meaning.proofs.Answered.{if-true, if-false, and-true, refuse-passes}
+use Rattle.meaning.proofs.Bools.{or-true-right}
 use Rattle.meaning.proofs.Accepted.{accepted-is-rule}
 use Rattle.rule.proofs.Looks.{letter-look, tree-look, class-look}
 use Rattle.rule.specs.Tables.{letterByte, treeByte, classByte}
 use Rattle.rule.specs.Says.{numbersOf}
 use Rattle.rule.specs.declared.Rule.{Rule}
-use Rattle.reading.specs.Turns.{RuleOf, StatesIn, BookServes}
+use Rattle.reading.specs.Turns.{lookNumber, RuleOf, StatesIn, BookServes}
 
 -- ---- a look at a byte of a table
 
-pub look-none : (table : Table) (place x : ℕ) (next : ℕ → Turn) → x ≡ none
-    → look table place (asMove x) next ≡ refused (noMoveNumber table) place
-unfolding look asMove
-look-none table place x next h = rw (if-true noMove (to x) (eq-eqb x none h), look)
+no-move-number : (table : Table) → 0 < noMoveNumber table
+unfolding noMoveNumber
+no-move-number letterTable = omega arith
+no-move-number startTable = omega arith
+no-move-number treeTable = omega arith
 
-pub look-to : (table : Table) (place x : ℕ) (next : ℕ → Turn) → (x ≡ none → ⊥)
-    → look table place (asMove x) next ≡ given (next x)
-unfolding look asMove
-look-to table place x next h = rw (if-false noMove (to x) (ne-eqb x none h), look)
+module _ (ceiling : ℕ) (r : Reading) (table : Table) (byte : ℕ) (next : ℕ → Turn) where
+  -- a look that may be refused: at the ceiling, and then where there is no move
+  abbrev pub lookAt : Answer Turn
+  lookAt = refuse 9 at r .taken when ceiling ≤? r .looks otherwise look table (r .taken) (asMove byte) next
+
+  abbrev pub refusedWith : ℕ
+  refusedWith = lookNumber ceiling r byte (noMoveNumber table)
+
+  pub look-gives : refusedWith ≡ 0 → lookAt ≡ given (next byte)
+  unfolding lookNumber if_then_else_ refuse_at_when_otherwise_ look asMove
+  look-gives = go (ceiling ≤? r .looks) (byte =? none)
+    where
+      go : (full isNone : Bool) → (if full then 9 else (if isNone then noMoveNumber table else 0)) ≡ 0
+          → (refuse 9 at r .taken when full otherwise look table (r .taken) (if isNone then noMove else (to byte)) next) ≡ given (next byte)
+      go true isNone e = absurd (omega arith)
+      go false true e = absurd (omega (arith, no-move-number table))
+      go false false e = refl
+
+  pub look-refuses : (refusedWith ≡ 0 → ⊥) → lookAt ≡ refused refusedWith (r .taken)
+  unfolding lookNumber if_then_else_ refuse_at_when_otherwise_ look asMove
+  look-refuses = go (ceiling ≤? r .looks) (byte =? none)
+    where
+      go : (full isNone : Bool) → ((if full then 9 else (if isNone then noMoveNumber table else 0)) ≡ 0 → ⊥)
+          → (refuse 9 at r .taken when full otherwise look table (r .taken) (if isNone then noMove else (to byte)) next)
+          ≡ refused (if full then 9 else (if isNone then noMoveNumber table else 0)) (r .taken)
+      go true isNone e = refl
+      go false true e = refl
+      go false false e = absurd (e refl)
 
 -- ---- which event a number is
 
@@ -50,6 +76,21 @@ unfolding eventOf
 letter-is zero h = absurd (omega arith)
 letter-is (suc zero) h = absurd (omega arith)
 letter-is (suc (suc a)) h = ap letter (omega arith)
+
+-- ---- a held level is settled, and any other by still alone
+
+pub held-settled : (book : List ℕ) (r : Reading) (top : Level) → held book r top ≡ true → settled book r top ≡ true
+unfolding settled
+held-settled book r top is = or-true-right (inStill book (r .state)) is
+
+or-none : (a : Bool) {b : Bool} → b ≡ false → (a || b) ≡ a
+or-none true e = refl
+or-none false e = e
+
+pub still-settled : (book : List ℕ) (r : Reading) (top : Level) → held book r top ≡ false
+    → settled book r top ≡ inStill book (r .state)
+unfolding settled
+still-settled book r top isNot = or-none (inStill book (r .state)) isNot
 
 -- ---- a held level is not the top
 
@@ -120,32 +161,26 @@ module _ {file : List ℕ} {rule : Rule} (h : RuleOf file rule) where
         holdWord = λ inside. omega (arith, states .aboveIn inside);
       }
 
-  -- ---- a table look of full reading is a look at a byte of the file, once the checks before it passed
+  -- ---- a table look of full reading is a look at a byte of the file
 
-  pub letter-turn : (room ceiling : ℕ) (r : Reading) (top : Level) (a : ℕ) → r .looks < ceiling → r .state < rule .states
-      → a < rule .letters
+  pub letter-turn : (room ceiling : ℕ) (r : Reading) (top : Level) (a : ℕ) → r .state < rule .states → a < rule .letters
       → fullTurn (ruleOf file) room ceiling r top (letter a)
-      ≡ look letterTable (r .taken) (asMove (letterByte file (rule .letters) (r .state) a)) (λ q. stays (looked r q (r .depth)))
+      ≡ lookAt ceiling r letterTable (letterByte file (rule .letters) (r .state) a) (λ q. stays (looked r q (r .depth)))
   unfolding fullTurn
-  letter-turn room ceiling r top a low hq ha =
-      refuse-passes 9 (r .taken) _ (lt-leb ceiling (r .looks) low)
-      ∙ rw (← letters-are, letter-look file (h .accepted) (r .state) a (omega (arith, states-are)) (omega (arith, letters-are)))
+  letter-turn room ceiling r top a hq ha =
+      rw (← letters-are, letter-look file (h .accepted) (r .state) a (omega (arith, states-are)) (omega (arith, letters-are)))
 
-  pub open-turn : (room ceiling : ℕ) (r : Reading) (top : Level) → r .depth < room → r .looks < ceiling
+  pub open-turn : (room ceiling : ℕ) (r : Reading) (top : Level) → r .depth < room
       → fullTurn (ruleOf file) room ceiling r top opens
-      ≡ look startTable (r .taken) (asMove (rule .«tree_start»)) (λ q. stores (opened r) (looked r q (r .depth + 1)))
+      ≡ lookAt ceiling r startTable (rule .«tree_start») (λ q. stores (opened r) (looked r q (r .depth + 1)))
   unfolding fullTurn treeStartMove
-  open-turn room ceiling r top free low =
-      refuse-passes 8 (r .taken) _ (lt-leb room (r .depth) free)
-      ∙ refuse-passes 9 (r .taken) _ (lt-leb ceiling (r .looks) low)
-      ∙ rw tree-start-is
+  open-turn room ceiling r top free = refuse-passes 8 (r .taken) _ (lt-leb room (r .depth) free) ∙ rw tree-start-is
 
-  pub close-turn : (room ceiling : ℕ) (r : Reading) (top : Level) → (r .depth ≡ 0 → ⊥) → r .looks < ceiling
+  pub close-turn : (room ceiling : ℕ) (r : Reading) (top : Level) → (r .depth ≡ 0 → ⊥)
       → r .state < rule .states → top .above < rule .states
       → fullTurn (ruleOf file) room ceiling r top closes
-      ≡ look treeTable (r .taken) (asMove (treeByte file (rule .states) (rule .letters) (top .above) (r .state))) (λ q. ends (looked r q (r .depth - 1)))
+      ≡ lookAt ceiling r treeTable (treeByte file (rule .states) (rule .letters) (top .above) (r .state)) (λ q. ends (looked r q (r .depth - 1)))
   unfolding fullTurn
-  close-turn room ceiling r top inside low hq hu =
+  close-turn room ceiling r top inside hq hu =
       refuse-passes 7 (r .taken) _ (ne-eqb (r .depth) 0 inside)
-      ∙ refuse-passes 9 (r .taken) _ (lt-leb ceiling (r .looks) low)
       ∙ rw (← letters-are, ← states-are, tree-look file (h .accepted) (top .above) (r .state) (omega (arith, states-are)) (omega (arith, states-are)))

@@ -3,11 +3,11 @@ use Prim.Native.Nat.{ℕ, _+_, _≤_, _<_}
 use mathlib.Core.Path.{_≡_}
 use mathlib.Core.List.{List}
 use lib.ListN.{length}
-use Rattle.meaning.specs.Answers.{Answer, given}
+use Rattle.meaning.specs.Answers.{Answer, given, if_then_else_, _≤?_, _=?_}
 use Rattle.meaning.specs.Calls.{refusalSays}
 use Rattle.meaning.specs.FullReading as full
 use Rattle.meaning.specs.FullReading.{stays, stores, ends, mostEvents}
-use Rattle.meaning.specs.RuleFile.{checkRule, ruleOf}
+use Rattle.meaning.specs.RuleFile.{none, checkRule, ruleOf}
 use Rattle.meaning.specs.declared.Reading.{Reading}
 use Rattle.meaning.specs.declared.Level.{Level}
 use Rattle.rule.specs.Says.{numbersOf}
@@ -21,6 +21,10 @@ turnSays (turn.Stays r) = given (stays r)
 turnSays (turn.Stores l r) = given (stores l r)
 turnSays (turn.Ends r) = given (ends r)
 turnSays (turn.Refused r) = refusalSays r
+
+-- the number of the refusal of a look at a byte, or zero where it gives a state: the ceiling first, and then no move
+unfoldable pub lookNumber : ℕ → Reading → ℕ → ℕ → ℕ
+lookNumber ceiling r byte number = if ceiling ≤? r .looks then 9 else (if byte =? none then number else 0)
 
 -- the bytes are an accepted rule file, and these are its rule's numbers
 pub record RuleOf (file : List ℕ) (rule : Rule) : Type 0 where

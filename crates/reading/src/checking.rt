@@ -2,6 +2,7 @@
 use crate::levels::level_at;
 use crate::levels::room;
 use crate::levels::top_level;
+use crate::settling::is_held;
 use crate::settling::is_settled;
 use meaning::Level;
 use meaning::Reading;
@@ -45,7 +46,8 @@ fn skips_unsettled(book: &[u64], reading: Reading, top: Level) -> bool
     if reading.skip == 0 {
         return false;
     }
-    !is_settled(book, reading, top)
+    let held = is_held(book, reading, top);
+    !is_settled(book, reading, held)
 }
 
 // Number 13: whether what was handed in is not a reading of a rule with so many states.

@@ -1,5 +1,6 @@
 // Passing over a run of events on a settled level, by counting alone: no table, no store and no book is read.
 use crate::PassedOver;
+use crate::settling::is_held;
 use crate::settling::is_settled;
 use crate::turns::MOST_EVENTS;
 use meaning::Level;
@@ -94,7 +95,8 @@ pub fn pass_settled(
     requires { ⌜ BookServes (now book) reading top ⌝ ∗ ⌜ Counted reading ⌝ ∗ ⌜ letters ≤ 256 ⌝ ∗ ⌜ from ≤ length (now events) ⌝ }
     ensures { λ r. ⌜ PassesOver letters (now (book .entry)) reading top (now (events .entry)) from r ⌝ }
 {
-    if is_settled(book, reading, top) {
+    let held = is_held(book, reading, top);
+    if is_settled(book, reading, held) {
         return pass_over(letters, reading, events, from);
     }
     PassedOver {

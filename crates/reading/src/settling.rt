@@ -5,7 +5,8 @@ ghost use mathlib.Core.Path.{_≡_};
 ghost use Prim.Native.Nat.{_+_, _<_};
 ghost use lib.ListN.{length};
 ghost use Rattle.meaning.specs.SkipBook.{bit};
-ghost use Rattle.meaning.specs.Skipping.{held, settled};
+ghost use Rattle.meaning.specs.Skipping as skipping;
+ghost use Rattle.meaning.specs.Skipping.{settled};
 ghost use Rattle.reading.specs.Turns.{BookServes};
 
 // Whether a state is in the set that a word stands for: its bit.
@@ -19,7 +20,7 @@ fn in_set(word: u64, state: u8) -> bool
 // Whether the level has an upper state u and the state is in hold(u).
 pub fn is_held(book: &[u64], reading: Reading, top: Level) -> bool
     requires { ⌜ BookServes (now book) reading top ⌝ }
-    ensures { λ r. ⌜ r ≡ held (now (book .entry)) reading top ⌝ }
+    ensures { λ r. ⌜ r ≡ skipping.held (now (book .entry)) reading top ⌝ }
 {
     if reading.depth == 0 {
         return false;
@@ -28,13 +29,13 @@ pub fn is_held(book: &[u64], reading: Reading, top: Level) -> bool
     in_set(book[hold], reading.state)
 }
 
-// Whether the level is settled: its state is in still, or it is held.
-pub fn is_settled(book: &[u64], reading: Reading, top: Level) -> bool
-    requires { ⌜ BookServes (now book) reading top ⌝ }
-    ensures { λ r. ⌜ r ≡ settled (now (book .entry)) reading top ⌝ }
+// Whether the level is settled: it is held, or its state is in still.
+pub fn is_settled(book: &[u64], reading: Reading, held: bool) -> bool
+    requires { ⌜ reading .state < 64 ⌝ ∗ ⌜ 0 < length (now book) ⌝ }
+    ensures { λ r. ⌜ ((top : Level) → held ≡ skipping.held (now (book .entry)) reading top → r ≡ settled (now (book .entry)) reading top) ⌝ }
 {
-    if in_set(book[0], reading.state) {
+    if held {
         return true;
     }
-    is_held(book, reading, top)
+    in_set(book[0], reading.state)
 }

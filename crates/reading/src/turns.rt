@@ -9,6 +9,7 @@ use meaning::Refusal;
 use rule::Rule;
 use rule::tables;
 ghost use mathlib.Core.Path.{_≡_};
+ghost use mathlib.Core.Bool.{true};
 ghost use mathlib.Core.List.{List};
 ghost use Prim.Native.Nat.{ℕ, _+_, _≤_, _<_};
 ghost use lib.ListN.{length};
@@ -19,7 +20,7 @@ ghost use Rattle.meaning.specs.FullReading.{opens, closes, letter, eventOf, ful
 ghost use Rattle.meaning.specs.FullReading as full;
 ghost use Rattle.meaning.specs.Skipping as skipping;
 ghost use Rattle.meaning.specs.Skipping.{endsLevel, settledTurn, skipEvent};
-ghost use Rattle.reading.specs.Turns.{turnSays, RuleOf, OneMore, StatesIn, Ready};
+ghost use Rattle.reading.specs.Turns.{turnSays, lookNumber, RuleOf, OneMore, StatesIn, Ready};
 
 // The most events that a reading takes.
 pub const MOST_EVENTS: u32 = 4294967295;
@@ -70,17 +71,28 @@ fn passed(reading: Reading, state: u8, depth: u32, skip: u32) -> Reading
     }
 }
 
+// The number of the refusal of a look at a byte, or zero where it gives a state: the ceiling first, and then no move.
+fn look_refused(ceiling: u32, reading: Reading, byte: u8, number: u8) -> u8
+    ensures { λ r. ⌜ r ≡ lookNumber ceiling reading byte number ⌝ }
+{
+    if ceiling <= reading.looks {
+        return 9;
+    }
+    if byte == Rule::NONE {
+        return number;
+    }
+    0
+}
+
 // A letter in full reading. The level store's length and the innermost record do not matter.
 fn full_letter(file: &[u8], rule: Rule, ceiling: u32, reading: Reading, a: u16) -> Turn
     requires { ⌜ RuleOf (now file) rule ⌝ ∗ ⌜ OneMore reading ⌝ ∗ ⌜ reading .state < rule .states ⌝ ∗ ⌜ a < rule .letters ⌝ }
     ensures { λ r. ⌜ ((room : ℕ) (top : Level) → turnSays r ≡ fullTurn (ruleOf (now (file .entry))) room ceiling reading top (letter a)) ⌝ }
 {
-    if ceiling <= reading.looks {
-        return refused_event(reading, 9);
-    }
     let state = tables::letter_move(file, rule, reading.state, a);
-    if state == Rule::NONE {
-        return refused_event(reading, NO_LETTER_MOVE);
+    let letter_refused = look_refused(ceiling, reading, state, NO_LETTER_MOVE);
+    if letter_refused != 0 {
+        return refused_event(reading, letter_refused);
     }
     Turn::Stays(looked(reading, state, reading.depth))
 }
@@ -90,14 +102,13 @@ fn full_open(rule: Rule, room: usize, ceiling: u32, reading: Reading) -> Turn
     requires { ⌜ OneMore reading ⌝ }
     ensures { λ r. ⌜ ((file : List ℕ) (top : Level) → RuleOf file rule → turnSays r ≡ fullTurn (ruleOf file) room ceiling reading top opens) ⌝ }
 {
-    if room <= reading.depth as usize {
+    let depth = reading.depth as usize;
+    let start_refused = look_refused(ceiling, reading, rule.tree_start, NO_TREE_START);
+    if room <= depth {
         return refused_event(reading, 8);
     }
-    if ceiling <= reading.looks {
-        return refused_event(reading, 9);
-    }
-    if rule.tree_start == Rule::NONE {
-        return refused_event(reading, NO_TREE_START);
+    if start_refused != 0 {
+        return refused_event(reading, start_refused);
     }
     let opened = Level {
         above: reading.state,
@@ -114,30 +125,29 @@ fn full_close(file: &[u8], rule: Rule, ceiling: u32, reading: Reading, top: Leve
     if reading.depth == 0 {
         return refused_event(reading, 7);
     }
-    if ceiling <= reading.looks {
-        return refused_event(reading, 9);
-    }
     let state = tables::tree_move(file, rule, top.above, reading.state);
-    if state == Rule::NONE {
-        return refused_event(reading, NO_TREE_MOVE);
+    let tree_refused = look_refused(ceiling, reading, state, NO_TREE_MOVE);
+    if tree_refused != 0 {
+        return refused_event(reading, tree_refused);
     }
     Turn::Ends(looked(reading, state, reading.depth - 1))
 }
 
-// A close on a settled level at skip depth zero, which ends the level.
+// A close on a settled level at skip depth zero, which ends the level. Only a held level ends without a look.
 fn ends_level(
     file: &[u8],
     rule: Rule,
-    book: &[u64],
+    held: bool,
     ceiling: u32,
     reading: Reading,
     top: Level,
 ) -> Turn
-    requires { ⌜ Ready (now file) rule (now book) reading top ⌝ ∗ ⌜ OneMore reading ⌝ }
-    ensures { λ r. ⌜ ((room : ℕ) → turnSays r ≡ endsLevel (ruleOf (now (file .entry))) (now (book .entry)) room ceiling reading top) ⌝ }
+    requires { ⌜ RuleOf (now file) rule ⌝ ∗ ⌜ OneMore reading ⌝ ∗ ⌜ StatesIn rule reading top ⌝ ∗ ⌜ (held ≡ true → 0 < reading .depth) ⌝ }
+    ensures { λ r. ⌜ ((book : List ℕ) (room : ℕ) → held ≡ skipping.held book reading top → turnSays r ≡ endsLevel (ruleOf (now (file .entry))) book room ceiling reading top) ⌝ }
 {
-    if is_held(book, reading, top) {
-        return Turn::Ends(passed(reading, top.above, reading.depth - 1, reading.skip));
+    if held {
+        let depth = reading.depth - 1;
+        return Turn::Ends(passed(reading, top.above, depth, reading.skip));
     }
     full_close(file, rule, ceiling, reading, top)
 }
@@ -146,23 +156,26 @@ fn ends_level(
 fn settled_turn(
     file: &[u8],
     rule: Rule,
-    book: &[u64],
+    held: bool,
     ceiling: u32,
     reading: Reading,
     top: Level,
     event: u16,
 ) -> Turn
-    requires { ⌜ Ready (now file) rule (now book) reading top ⌝ ∗ ⌜ OneMore reading ⌝ }
-    ensures { λ r. ⌜ ((room : ℕ) → turnSays r ≡ settledTurn (ruleOf (now (file .entry))) (now (book .entry)) room ceiling reading top (eventOf event)) ⌝ }
+    requires { ⌜ RuleOf (now file) rule ⌝ ∗ ⌜ OneMore reading ⌝ ∗ ⌜ StatesIn rule reading top ⌝ ∗ ⌜ (held ≡ true → 0 < reading .depth) ⌝ }
+    ensures { λ r. ⌜ ((book : List ℕ) (room : ℕ) → held ≡ skipping.held book reading top → turnSays r ≡ settledTurn (ruleOf (now (file .entry))) book room ceiling reading top (eventOf event)) ⌝ }
 {
     if event == 0 {
-        return Turn::Stays(passed(reading, reading.state, reading.depth, reading.skip + 1));
+        let skip = reading.skip + 1;
+        let next = passed(reading, reading.state, reading.depth, skip);
+        return Turn::Stays(next);
     }
     if event == 1 {
         if 0 < reading.skip {
-            return Turn::Stays(passed(reading, reading.state, reading.depth, reading.skip - 1));
+            let skip = reading.skip - 1;
+            return Turn::Stays(passed(reading, reading.state, reading.depth, skip));
         }
-        return ends_level(file, rule, book, ceiling, reading, top);
+        return ends_level(file, rule, held, ceiling, reading, top);
     }
     Turn::Stays(passed(reading, reading.state, reading.depth, reading.skip))
 }
@@ -203,14 +216,17 @@ pub fn skip_event(
     requires { ⌜ Ready (now file) rule (now book) reading top ⌝ }
     ensures { λ r. ⌜ turnSays r ≡ skipEvent (ruleOf (now (file .entry))) (now (book .entry)) room ceiling reading top event ⌝ }
 {
+    let known = rule.letters + 2;
     if MOST_EVENTS <= reading.taken {
         return refused_event(reading, 16);
     }
-    if rule.letters + 2 <= event {
+    if known <= event {
         return refused_event(reading, 10);
     }
-    if is_settled(book, reading, top) {
-        return settled_turn(file, rule, book, ceiling, reading, top, event);
+    let held = is_held(book, reading, top);
+    let settled = is_settled(book, reading, held);
+    if settled {
+        return settled_turn(file, rule, held, ceiling, reading, top, event);
     }
     full_turn(file, rule, room, ceiling, reading, top, event)
 }

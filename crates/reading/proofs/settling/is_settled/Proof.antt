@@ -1,12 +1,14 @@
--- `reading::settling::is_settled` meets its contract: the state's bit is in the word of still, or else the level is held.
+-- `reading::settling::is_settled` meets its contract: the level is held, or else the state's bit in the word of still decides.
 -- Assumes nothing.
 use borrow.Author.Needs.{needs}
 use mathlib.Core.Path.{sym, _∙_}
-use denote.Ref.{now}
 use Rattle.meaning.specs.SkipBook.{inStill}
-use Rattle.meaning.specs.Skipping.{settled}
+use Rattle.reading.proofs.Turned.{held-settled, still-settled}
 use Rattle.reading.proofs.settling.is_settled.Statement.{statement}
 use Rattle.reading.proofs.settling.is_settled.Tie as tie
+
+returns : tie.Need-returns
+returns c = λ top is. sym (held-settled _ _ top (sym is ∙ c .if1 .taken))
 
 shared-slice-read-in-set : tie.Need-shared-slice-read-in-set
 shared-slice-read-in-set c = search needs
@@ -14,18 +16,9 @@ shared-slice-read-in-set c = search needs
 in-set-requires : tie.Need-in-set-requires
 in-set-requires c κs = search needs
 
-returns : tie.Need-returns
-unfolding settled inStill
-returns c = sym (rw (← c .before .in-set .ensures, c .if1 .taken))
-
-is-held-requires : tie.Need-is-held-requires
-is-held-requires c κs = search needs
-
 returns-2 : tie.Need-returns-2
-unfolding settled inStill
-returns-2 c = c .is-held .ensures ∙ sym (rw (← c .before .before .in-set .ensures, c .before .if1 .left))
+unfolding inStill
+returns-2 c = λ top is. c .in-set .ensures ∙ sym (still-settled _ _ top (sym is ∙ c .before .before .if1 .left))
 
 pub is-settled-spec : {M : Type 1} → statement M
-is-settled-spec =
-    tie.close
-    (tie.spec shared-slice-read-in-set in-set-requires returns is-held-requires returns-2)
+is-settled-spec = tie.close (tie.spec returns shared-slice-read-in-set in-set-requires returns-2)
