@@ -12,3 +12,8 @@ pub mod ReadingCheck
 pub mod SplitFeeds
 pub mod OneAnswer
 pub mod Whole
+pub mod Marks
+pub mod Rounds
+pub mod Bits
+pub mod BookMade
+pub mod RoundTrip

@@ -3,3 +3,4 @@ pub mod Said
 pub mod Steps
 pub mod Outcomes
 pub mod Stages
+pub mod Laying

@@ -1,5 +1,5 @@
 -- What an outcome says of the checks that come after it: a refusal is the answer, and where a check passes the rest decides.
-use mathlib.Core.Path.{_≡_, refl, sym, ap, _∙_}
+use mathlib.Core.Path.{_≡_, sym, ap, _∙_}
 use Rattle.meaning.specs.Answers.{Answer, given, _andThen_, _giving_}
 use Rattle.meaning.specs.Calls.{refusalSays}
 use Rattle.meaning.specs.declared.Refusal.{Refusal}

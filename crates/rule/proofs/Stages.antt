@@ -1,13 +1,14 @@
 -- The rule check in the stages in which the code makes it: the first record, the four numbers, and the three tables.
-use mathlib.Core.Path.{_≡_, refl, sym, ap, _∙_}
+use mathlib.Core.Path.{_≡_, refl}
 use mathlib.Core.Bool.{Bool, true, false}
 use mathlib.Core.List.{List, []}
-use Prim.Native.Nat.{ℕ, _+_}
-use Rattle.meaning.specs.Answers.{Answer, given, refused, refuse_at_when_otherwise_, _andThen_, _giving_}
-use Rattle.meaning.specs.RuleFile.{byteAt, number2, part, recordCheck, numbersCheck, tableCheck, isMove, isClass, isState, checkRule, ruleOf, letterRecord, headerLength, numbersLength}
+use Prim.Native.Nat.{ℕ}
+use Rattle.meaning.specs.Answers.{Answer, given, refused, refuse_at_when_otherwise_, _andThen_, _giving_, _<?_}
+use Rattle.meaning.specs.RuleFile as format
+use Rattle.meaning.specs.RuleFile.{byteAt, number2, recordCheck, numbersCheck, isMove, isClass, isState, checkRule, ruleOf, numbersLength, fileLength, writeCheck}
 use Rattle.rule.specs.declared.Rule.{Rule}
 use Rattle.rule.specs.Says.{numbersOf, checkAnswer}
-use Rattle.rule.specs.Checks.{inRange, ruleFrom, numbersAnswer, bodyCheck, tablesCheck}
+use Rattle.rule.specs.Checks.{inRange, ruleFrom, numbersAnswer, bodyCheck, tablesCheck, givenCheck}
 
 -- ---- what is done with the end of a row of checks
 
@@ -75,3 +76,23 @@ pub check-stages : (file : List ℕ)
 unfolding checkAnswer checkRule ruleOf numbersAnswer ruleFrom numbersOf afterNumbers tablesCheck bodyCheck
 check-stages file =
     simp (andThen-giving, refuse-giving, given-giving, andThen-andThen, refuse-andThen, given-andThen, move-in-range, class-in-range, numbers-of-file)
+
+-- what the writer has left to check once the numbers are in range
+unfoldable pub afterGiven : format.Rule → ℕ → Answer ℕ
+afterGiven R room =
+    let count : ℕ = fileLength (R .states) (R .letters) in
+    givenCheck R andThen
+    refuse 14 at count when room <? count otherwise
+    given count
+
+numbers-of-rule : (R : format.Rule)
+    → numbersCheck R ≡ numbersCheck (ruleFrom (R .states) (R .initial) (R .treeStart) (R .letters) [] [] [])
+unfolding numbersCheck ruleFrom
+numbers-of-rule R = refl
+
+pub write-stages : (R : format.Rule) (room : ℕ)
+    → writeCheck R room
+    ≡ (numbersAnswer (R .states) (R .initial) (R .treeStart) (R .letters) giving λ (rule : Rule). afterGiven R room)
+unfolding writeCheck afterGiven numbersAnswer givenCheck
+write-stages R room =
+    simp (andThen-giving, given-giving, andThen-andThen, refuse-andThen, move-in-range, class-in-range, ← numbers-of-rule R)

@@ -1,13 +1,13 @@
 -- What the checks of a record and of a table come to, test by test: whoever makes the same tests in the same order answers the
 -- same.
-use mathlib.Core.Path.{_≡_, refl, sym, ap, _∙_}
+use mathlib.Core.Path.{_≡_, ap, _∙_}
 use mathlib.Core.Bool.{Bool, true, false, not}
-use mathlib.Core.List.{List, [], _∷_}
+use mathlib.Core.List.{List}
 use Prim.Native.Nat.{ℕ, suc, _+_, _≤_, _<_}
 use lib.ListN.{length, getD, drop}
 use lib.Seq.{drop-cons, drop-length}
 use borrow.Author.Tests.{lt-ltb, le-ltb, eq-eqb, ne-eqb}
-use Rattle.meaning.specs.Answers.{Answer, given, refused, refuse_at_when_otherwise_, _<?_, _=?_}
+use Rattle.meaning.specs.Answers.{given, refused}
 use Rattle.meaning.specs.RuleFile.{number2, number4, recordCheck, tableCheck, headerLength}
 use Rattle.meaning.proofs.Answered.{refuse-passes, refuse-stops}
 
@@ -33,20 +33,14 @@ module _ (file : List ℕ) (place kind size : ℕ) where
           ∙ refuse-passes 2 (place + 4) _ (ap not (eq-eqb _ _ right))
           ∙ refuse-stops 3 place _ (ap not (ne-eqb _ _ g))
 
-      module _ (long : number4 file place ≡ size) where
-        fourth : recordCheck file place kind size
-            ≡ (refuse 1 at length file when length file <? place + headerLength + size otherwise given tt)
-        unfolding recordCheck
-        fourth =
-            refuse-passes 1 (length file) _ (le-ltb _ _ whole)
-            ∙ refuse-passes 2 (place + 4) _ (ap not (eq-eqb _ _ right))
-            ∙ refuse-passes 3 place _ (ap not (eq-eqb _ _ long))
-
-        pub record-cut : length file < place + headerLength + size → recordCheck file place kind size ≡ refused 1 (length file)
-        record-cut h = fourth ∙ refuse-stops 1 (length file) _ (lt-ltb _ _ h)
-
-        pub record-passes : place + headerLength + size ≤ length file → recordCheck file place kind size ≡ given tt
-        record-passes h = fourth ∙ refuse-passes 1 (length file) _ (le-ltb _ _ h)
+      pub record-cut : number4 file place ≡ size → length file < place + headerLength + size
+          → recordCheck file place kind size ≡ refused 1 (length file)
+      unfolding recordCheck
+      record-cut long h =
+          refuse-passes 1 (length file) _ (le-ltb _ _ whole)
+          ∙ refuse-passes 2 (place + 4) _ (ap not (eq-eqb _ _ right))
+          ∙ refuse-passes 3 place _ (ap not (eq-eqb _ _ long))
+          ∙ refuse-stops 1 (length file) _ (lt-ltb _ _ h)
 
 -- ---- a table, from its entry i on
 

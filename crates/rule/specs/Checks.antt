@@ -1,10 +1,10 @@
 -- What the single checks of a rule answer: the listing of their outcome, one test for every number that stands in a table,
 -- and the rule of the writer's arguments.
 use Prim.Native.Nat.{ℕ, _+_, _*_}
-use mathlib.Core.Bool.{Bool, true, false}
+use mathlib.Core.Bool.{Bool, true, false, not}
 use mathlib.Core.List.{List, []}
 use lib.ListN.{length}
-use Rattle.meaning.specs.Answers.{Answer, given, _andThen_, refuse_at_when_otherwise_, _<?_}
+use Rattle.meaning.specs.Answers.{refuse_at_when_otherwise_, Answer, given, _andThen_, _<?_, _=?_}
 use Rattle.meaning.specs.RuleFile as format
 use Rattle.meaning.specs.RuleFile.{isState, isMove, numbersCheck, recordCheck, tableCheck, part, headerLength, letterRecord, treeRecord, classRecord, fileLength, classCount}
 use Rattle.meaning.specs.Calls.{refusalSays}
@@ -55,3 +55,15 @@ tablesCheck file n k =
     bodyCheck file (classRecord n k) 4 n classCount false andThen
     refuse 5 at fileLength n k when fileLength n k <? length file otherwise
     given tt
+
+-- the lengths of the tables that the writer is given, and then their bytes
+unfoldable pub givenCheck : format.Rule → Answer Unit
+givenCheck R =
+    let n : ℕ = R .states in
+    let k : ℕ = R .letters in
+    refuse 3 at letterRecord when not (length (R .letterMoves) =? n * k) otherwise
+    refuse 3 at treeRecord n k when not (length (R .treeMoves) =? n * n) otherwise
+    refuse 3 at classRecord n k when not (length (R .classes) =? n) otherwise
+    tableCheck (inRange n true) (letterRecord + headerLength) (R .letterMoves) andThen
+    tableCheck (inRange n true) (treeRecord n k + headerLength) (R .treeMoves) andThen
+    tableCheck (inRange classCount false) (classRecord n k + headerLength) (R .classes)

@@ -2,3 +2,4 @@ pub mod Tables
 pub mod Says
 pub mod Checks
 pub mod Places
+pub mod Laid

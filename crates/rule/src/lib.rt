@@ -2,6 +2,7 @@
 mod check;
 mod layout;
 pub mod tables;
+pub mod writer;
 
 use check::Outcome;
 use meaning::Refusal;

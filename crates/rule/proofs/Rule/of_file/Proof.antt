@@ -1,6 +1,6 @@
 -- `rule::Rule::of_file` meets its contract: it makes the rule check in its stages, each of which is proved.
 -- Assumes nothing.
-use mathlib.Core.Path.{_≡_, sym, ap, _∙_}
+use mathlib.Core.Path.{sym, ap, _∙_}
 use native.Mathlib.Omega.{arith}
 use denote.Ref.{now}
 use Rattle.meaning.specs.RuleFile.{byteAt}

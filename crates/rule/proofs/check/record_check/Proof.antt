@@ -2,8 +2,9 @@
 -- Assumes nothing.
 use mathlib.Core.Path.{sym, _∙_}
 use denote.Ref.{now}
+use Rattle.meaning.proofs.RoundTrip.{record-passes}
 use Rattle.rule.specs.Checks.{outcomeSays}
-use Rattle.rule.proofs.Steps.{record-short, record-kind, record-length, record-cut, record-passes}
+use Rattle.rule.proofs.Steps.{record-short, record-kind, record-length, record-cut}
 use borrow.Author.Needs.{needs}
 use Rattle.rule.proofs.check.record_check.Statement.{statement}
 use Rattle.rule.proofs.check.record_check.Tie as tie
@@ -77,7 +78,7 @@ returns-5 : tie.Need-returns-5
 unfolding outcomeSays
 returns-5 c =
     let a = c .before .before .before .before .before .before .before .args in
-    sym (record-passes (now (a .file)) (a .place) (a .kind) (a .size) (c .before .before .before .before .before .if1 .left)
+    sym (record-passes (now (a .file)) (a .place) (a .kind) (a .size)
     (sym (c .before .before .before .before .number2 .ensures) ∙ c .before .before .before .if2 .left)
     (sym (c .before .before .number4 .ensures) ∙ c .before .if3 .left)
     (c .if4 .left))

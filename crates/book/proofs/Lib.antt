@@ -1,0 +1,5 @@
+pub mod Standing
+pub mod Walked
+pub mod InRounds
+pub mod BookWords
+pub mod Makes

@@ -1,0 +1,73 @@
+-- What the maker answers for an accepted file, case by case, and that its listing is one-to-one, so that two answers that the
+-- contract allows agree.
+use mathlib.Core.Path.{_≡_, refl, sym, ap, _∙_}
+use mathlib.Core.Bool.{true, false}
+use mathlib.Core.List.{List, _++_}
+use Prim.Native.Nat.{ℕ, _+_, _≤_, _<_}
+use native.Mathlib.Omega.{arith}
+use lib.ListN.{length, drop}
+use lib.Count.{ones}
+use borrow.Author.Tests.{lt-ltb, le-ltb}
+use Rattle.meaning.specs.Answers.{Answer, given, refused, _<?_, refuse_at_when_otherwise_, _giving_}
+use Rattle.meaning.specs.RuleFile.{Rule, checkRule, ruleOf}
+use Rattle.meaning.specs.SkipBook.{roundsUsedUp, stillMarks, wordOf, bookOf, makeBook, bookAfter}
+use Rattle.meaning.specs.Calls.{refusalSays}
+use Rattle.rule.specs.declared.Rule.{Rule as Numbers}
+use Rattle.rule.specs.declared.Checked.the-variants as checked
+use Rattle.rule.specs.Says.{numbersOf, checkedSays, checkAnswer}
+use Rattle.rule.proofs.Said.{fine-accepted}
+use Rattle.book.specs.declared.Made.{Made}
+use Rattle.book.specs.declared.Made.the-variants as made
+use Rattle.book.specs.Says.{madeSays}
+use Rattle.book.specs.Sets.{Accepted}
+use Rattle.meaning.proofs.Accepted.{accepted-rule}
+use Rattle.meaning.proofs.Answered.{refuse-stops, refuse-passes, giving-passes, giving-stops}
+
+module _ (file book : List ℕ) {R : Rule} (accepted : checkRule file ≡ given R) where
+  pub book-short : length book < R .states + 1 → makeBook file book ≡ refused 6 0
+  unfolding makeBook
+  book-short h = giving-passes _ accepted ∙ refuse-stops 6 0 _ (lt-ltb (length book) (R .states + 1) h)
+
+  module _ (room : R .states + 1 ≤ length book) where
+    enough : makeBook file book ≡ (refuse 15 at 0 when roundsUsedUp R otherwise given (ones (wordOf (stillMarks R))))
+    unfolding makeBook
+    enough = giving-passes _ accepted ∙ refuse-passes 6 0 _ (le-ltb (length book) (R .states + 1) room)
+
+    pub rounds-used-up : roundsUsedUp R ≡ true → makeBook file book ≡ refused 15 0
+    rounds-used-up e = enough ∙ refuse-stops 15 0 _ e
+
+    pub book-made : roundsUsedUp R ≡ false → makeBook file book ≡ given (ones (wordOf (stillMarks R)))
+    book-made e = enough ∙ refuse-passes 15 0 _ e
+
+pub check-refused : (file book : List ℕ) {number place : ℕ} → checkRule file ≡ refused number place → makeBook file book ≡ refused number place
+unfolding makeBook
+check-refused file book e = giving-stops _ e
+
+-- a refusal leaves the book, and an answer that was given has it written
+pub after-refused : (answer : Answer ℕ) {number place : ℕ} (R : Rule) (book : List ℕ) → answer ≡ refused number place
+    → book ≡ bookAfter answer R book
+unfolding bookAfter
+after-refused answer R book e = sym (rw (e, bookAfter))
+
+pub after-given : (answer : Answer ℕ) {count : ℕ} (R : Rule) (book : List ℕ) → answer ≡ given count
+    → bookAfter answer R book ≡ bookOf R ++ drop (R .states + 1) book
+unfolding bookAfter
+after-given answer R book e = rw (e, bookAfter)
+
+-- the numbers of a rule that the check gave are those of the file's rule
+pub fine : (file : List ℕ) (rule : Numbers) → checkedSays (checked.Fine rule) ≡ checkAnswer file → Accepted file rule
+fine file rule e =
+    let f = fine-accepted file rule e in
+    let same : ruleOf file ≡ f .0 = accepted-rule file (f .1) in
+    record { passed = f .1 ∙ ap given (sym same); numbers = ap numbersOf same ∙ f .2 }
+
+-- two answers that say the same are the same
+pub made-says : (a b : Made) → madeSays a ≡ madeSays b → a ≡ b
+unfolding madeSays refusalSays
+made-says (made.Still a) (made.Still b) e = cc
+made-says (made.Still a) (made.Refused b) e = cc
+made-says (made.Refused a) (made.Still b) e = cc
+made-says (made.Refused a) (made.Refused b) e =
+    let number : a .number ≡ b .number = cc in
+    let place : a .place ≡ b .place = cc in
+    λ i. made.Refused (record { number = number i; place = place i })

@@ -1,0 +1,175 @@
+-- Laws of words that stand for sets: the empty set, one member, the join of two, the join of one more, and the set without
+-- its lowest member. Each is a law of bits said of all 64.
+use mathlib.Core.Path.{_≡_, refl, sym, ap, ap₂, _∙_, subst}
+use mathlib.Core.Logic.{_⊎_, inl, inr, ⊎-elim}
+use mathlib.Core.Bool.{Bool, true, false, not, _&&_, _||_, false≢true}
+use mathlib.Core.List.{List}
+use Prim.Native.Nat.{ℕ, zero, suc, _+_, _-_, _^_, _≤_, _<_}
+use native.Mathlib.Nat.{not-suc-le-zero}
+use native.Mathlib.Omega.{arith}
+use native.Mathlib.Numerals.{add-one}
+use lib.ListN.{length, getD, set, length-set, List·getD-eq-default}
+use lib.Seq.{getD-set-same, getD-set-other}
+use borrow.Author.Count.{below-none, below-more}
+use lib.Bits.{bitAnd, bitOr}
+use lib.Count.{trailingZeros}
+use borrow.Author.Tests.{ltb-true, ltb-false, lt-ltb, eqb-true, eq-eqb}
+use Rattle.meaning.specs.Answers.{_=?_, _<?_}
+use Rattle.meaning.specs.SkipBook.{anyBelow, bit, marked, wordOf}
+use Rattle.meaning.proofs.Answered.{and-true, both-true}
+use Rattle.meaning.proofs.Marks.{truth, same-truth, absurd-truth, or-true, or-left, or-right, last-or-below, any-at, any-some, any-false}
+use Rattle.meaning.proofs.Bits.{bit-zero, bit-or, bit-only, bit-past, word-of, lowest, cleared, cleared-less}
+use Rattle.book.specs.Sets.{StandsFor, joined, firstOf}
+
+pub stands-empty : StandsFor 0 (λ p. false)
+unfolding StandsFor
+stands-empty p h = bit-zero p
+
+pub stands-only : (t : ℕ) → StandsFor (2 ^ t) (λ p. t =? p)
+unfolding StandsFor
+stands-only t p h = bit-only t p
+
+pub stands-or : (v w : ℕ) (f g : ℕ → Bool) → StandsFor v f → StandsFor w g → StandsFor (bitOr v w) (λ p. f p || g p)
+unfolding StandsFor
+stands-or v w f g a b p h = bit-or v w p ∙ ap₂ (λ (x y : Bool). x || y) (a p h) (b p h)
+
+pub stands-as : (w : ℕ) (f g : ℕ → Bool) → ((p : ℕ) → p < 64 → f p ≡ g p) → StandsFor w f → StandsFor w g
+unfolding StandsFor
+stands-as w f g same s p h = s p h ∙ same p h
+
+-- a word that stands for what is marked is the word of the marks
+pub stands-word : (w : ℕ) (marks : List Bool) → w < 2 ^ 64 → length marks ≤ 64 → StandsFor w (marked marks) → w ≡ wordOf marks
+unfolding StandsFor marked
+stands-word w marks small short s =
+    word-of w marks (λ p. ⊎-elim (λ t. s p (ltb-true p 64 t))
+    (λ f. let l : 64 ≤ p = ltb-false p 64 f in
+    let m : length marks ≤ p = omega arith in
+    bit-past 64 w p small l ∙ sym (List·getD-eq-default marks false m)) (truth (p <? 64)))
+
+-- the states that one of the first i tests has, and those of the next test
+pub stands-more : (v w i : ℕ) (f : ℕ → ℕ → Bool) → StandsFor v (λ p. anyBelow i (λ j. f j p)) → StandsFor w (f i)
+    → StandsFor (bitOr v w) (λ p. anyBelow (i + 1) (λ j. f j p))
+unfolding anyBelow
+stands-more v w i f a b = rw add-one (stands-or v w _ _ a b)
+
+-- ---- the first states that pass a test
+
+pub first-true : (n : ℕ) (test : ℕ → Bool) (p : ℕ) → firstOf n test p ≡ true → (p < n) × (test p ≡ true)
+unfolding firstOf
+first-true n test p e = let b = and-true (p <? n) (test p) e in (ltb-true p n (b .0), b .1)
+
+pub first-in : (n : ℕ) (test : ℕ → Bool) (p : ℕ) → p < n → test p ≡ true → firstOf n test p ≡ true
+unfolding firstOf
+first-in n test p h e = both-true (lt-ltb p n h) e
+
+pub gather-first : (test : ℕ → Bool) → StandsFor 0 (firstOf 0 test)
+gather-first test =
+    stands-as 0 _ _ (λ p h. same-truth false (firstOf 0 test p) (λ f. absurd (false≢true f))
+    (λ t. absurd (not-suc-le-zero (first-true 0 test p t .0)))) stands-empty
+
+pub gather-yes : (set w i : ℕ) (test : ℕ → Bool) → test i ≡ true → w ≡ 2 ^ i → StandsFor set (firstOf i test)
+    → StandsFor (bitOr set w) (firstOf (i + 1) test)
+gather-yes set w i test member e s =
+    rw e (stands-as (bitOr set (2 ^ i)) _ _ (λ p h. same-truth (firstOf i test p || i =? p) (firstOf (i + 1) test p)
+    (λ t. ⊎-elim (λ f. let b = first-true i test p f in first-in (i + 1) test p (omega arith) (b .1))
+    (λ same. let q = eqb-true i p same in first-in (i + 1) test p (omega arith) (ap test (sym q) ∙ member)) (or-true (firstOf i test p) (i =? p) t))
+    (λ t. let b = first-true (i + 1) test p t in
+    ⊎-elim (λ same. or-right (firstOf i test p) (eq-eqb i p (sym same))) (λ less. or-left (i =? p) (first-in i test p less (b .1)))
+    (last-or-below (rw add-one at (b .0)))))
+    (stands-or set (2 ^ i) (firstOf i test) (λ p. i =? p) s (stands-only i)))
+
+pub gather-no : (set i : ℕ) (test : ℕ → Bool) → test i ≡ false → StandsFor set (firstOf i test) → StandsFor set (firstOf (i + 1) test)
+gather-no set i test out s =
+    stands-as set _ _ (λ p h. same-truth (firstOf i test p) (firstOf (i + 1) test p)
+    (λ t. let b = first-true i test p t in first-in (i + 1) test p (omega arith) (b .1))
+    (λ t. let b = first-true (i + 1) test p t in
+    ⊎-elim (λ same. absurd-truth (ap test (sym same) ∙ b .1) out) (λ less. first-in i test p less (b .1)) (last-or-below (rw add-one at (b .0))))) s
+
+-- ---- the members one after the other
+
+-- what some member of a set has is what its lowest member has, or one of the others
+module _ (w : ℕ) (pos : 0 < w) (h : w < 2 ^ 64) (f : ℕ → Bool) where
+  members : Bool
+  members = anyBelow 64 (λ m. bit w m && f m)
+
+  others : Bool
+  others = anyBelow 64 (λ m. bit (bitAnd w (w - 1)) m && f m)
+
+  there : members ≡ true → (f (trailingZeros 64 w) || others) ≡ true
+  unfolding members others
+  there e =
+      let s = any-some 64 (λ m. bit w m && f m) e in
+      let m : ℕ = s .0 in
+      let b = and-true (bit w m) (f m) (s .2) in
+      ⊎-elim (λ same. or-left _ (ap f (eqb-true (trailingZeros 64 w) m same) ∙ b .1))
+      (λ no. or-right (f (trailingZeros 64 w)) (any-at 64 _ m (s .1)
+      (both-true (cleared 64 w pos h m ∙ both-true (b .0) (ap not no)) (b .1)))) (truth (trailingZeros 64 w =? m))
+
+  back : (f (trailingZeros 64 w) || others) ≡ true → members ≡ true
+  unfolding members others
+  back e =
+      let low = lowest 64 w pos h in
+      ⊎-elim (λ first. any-at 64 (λ m. bit w m && f m) (trailingZeros 64 w) (low .below) (both-true (low .member) first))
+      (λ other. let s = any-some 64 (λ m. bit (bitAnd w (w - 1)) m && f m) other in
+      let b = and-true (bit (bitAnd w (w - 1)) (s .0)) (f (s .0)) (s .2) in
+      any-at 64 (λ m. bit w m && f m) (s .0) (s .1) (both-true (and-true (bit w (s .0)) _ (sym (cleared 64 w pos h (s .0)) ∙ b .0) .0) (b .1)))
+      (or-true (f (trailingZeros 64 w)) others e)
+
+  pub lowest-first : anyBelow 64 (λ m. bit w m && f m) ≡ (f (trailingZeros 64 w) || anyBelow 64 (λ m. bit (bitAnd w (w - 1)) m && f m))
+  unfolding members others
+  lowest-first = same-truth members (f (trailingZeros 64 w) || others) there back
+
+or-assoc : (a b c : Bool) → (a || b || c) ≡ (a || (b || c))
+or-assoc true b c = refl
+or-assoc false b c = refl
+
+or-none : (a : Bool) {b : Bool} → b ≡ false → (a || b) ≡ a
+or-none true e = refl
+or-none false e = e
+
+-- ---- a turn that joins what the table has for the lowest member
+
+pub record Turn (table : List ℕ) (set all rest : ℕ) : Type 0 where
+  pub small : rest < 2 ^ 64
+  pub same : (p : ℕ) → p < 64 → (bit all p || anyBelow 64 (λ m. bit rest m && bit (getD table m 0) p)) ≡ joined table set p
+
+pub turn-first : (table : List ℕ) (set : ℕ) → set < 2 ^ 64 → Turn table set set set
+unfolding joined
+turn-first table set h = record { small = h; same = λ p l. refl }
+
+pub turn-next : (table : List ℕ) (set all rest : ℕ) → 0 < rest → Turn table set all rest
+    → Turn table set (bitOr all (getD table (trailingZeros 64 rest) 0)) (bitAnd rest (rest - 1))
+turn-next table set all rest pos t =
+    record {
+      small = omega (arith, cleared-less rest pos, t .small);
+      same = λ p l. let left : Bool = anyBelow 64 (λ m. bit (bitAnd rest (rest - 1)) m && bit (getD table m 0) p) in
+      ap (λ (b : Bool). b || left) (bit-or all (getD table (trailingZeros 64 rest) 0) p)
+      ∙ or-assoc (bit all p) (bit (getD table (trailingZeros 64 rest) 0) p) left
+      ∙ ap (λ (b : Bool). bit all p || b) (sym (lowest-first rest pos (t .small) (λ m. bit (getD table m 0) p)))
+      ∙ t .same p l;
+    }
+
+pub turn-last : (table : List ℕ) (set all rest : ℕ) → rest ≡ 0 → Turn table set all rest → StandsFor all (joined table set)
+unfolding StandsFor
+turn-last table set all rest e t p h =
+    sym (or-none (bit all p) (any-false 64 _ (λ m l. ap (λ (w : ℕ). bit w m && bit (getD table m 0) p) e ∙ ap (λ (b : Bool). b && bit (getD table m 0) p) (bit-zero m))))
+    ∙ t .same p h
+
+-- ---- a table of 64 words that is filled from the front
+
+pub record Filled (P : ℕ → ℕ → Type 0) (i : ℕ) (table : List ℕ) : Type 0 where
+  pub long : length table ≡ 64
+  pub each : (q : ℕ) → q < i → P q (getD table q 0)
+
+pub filled-first : (P : ℕ → ℕ → Type 0) (table : List ℕ) → length table ≡ 64 → Filled P 0 table
+filled-first P table e = record { long = e; each = below-none (λ q. P q (getD table q 0)) }
+
+pub filled-next : (P : ℕ → ℕ → Type 0) (i w : ℕ) (table : List ℕ) → i < 64 → Filled P i table → P i w → Filled P (i + 1) (set table i w)
+filled-next P i w table h f here =
+    record {
+      long = length-set table i w ∙ f .long;
+      each =
+          below-more (λ q. P q (getD (set table i w) q 0)) i
+          (λ q l. subst (P q) (sym (getD-set-other table i q w 0 (λ e. omega arith))) (f .each q l))
+          (subst (P i) (sym (getD-set-same table i w 0 (rw (f .long) h))) here);
+    }

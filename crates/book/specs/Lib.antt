@@ -1,0 +1,3 @@
+-- What the contracts of the maker cite.
+pub mod Sets
+pub mod Says

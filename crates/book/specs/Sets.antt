@@ -1,0 +1,55 @@
+-- What the parts of the maker work on: words that stand for sets of states.
+use mathlib.Core.Path.{_≡_}
+use mathlib.Core.Bool.{Bool, true, false, not, _&&_, _||_}
+use mathlib.Core.List.{List}
+use Prim.Native.Nat.{ℕ, _<_}
+use lib.ListN.{getD}
+use Rattle.meaning.specs.Answers.{Answer, given, _<?_}
+use Rattle.meaning.specs.RuleFile as format
+use Rattle.meaning.specs.RuleFile.{ruleOf, checkRule, letterMove, treeMove}
+use Rattle.meaning.specs.SkipBook.{anyBelow, goesTo, canEndTree, noneOr, oneMove, reachedIn, holdMarks, wordOf, bit}
+use Rattle.rule.specs.declared.Rule.{Rule}
+use Rattle.rule.specs.Says.{numbersOf}
+
+-- the file passed the rule check, and these are its rule's numbers
+pub record Accepted (file : List ℕ) (rule : Rule) : Type 0 where
+  pub passed : checkRule file ≡ given (ruleOf file)
+  pub numbers : numbersOf (ruleOf file) ≡ rule
+
+-- a word of 64 bits stands for the states that pass a test
+unfoldable pub StandsFor : ℕ → (ℕ → Bool) → Type 0
+StandsFor word test = (p : ℕ) → p < 64 → bit word p ≡ test p
+
+-- the states of a set, and those that a table of sets has for a member
+unfoldable pub joined : List ℕ → ℕ → ℕ → Bool
+joined table set p = bit set p || anyBelow 64 (λ m. bit set m && bit (getD table m 0) p)
+
+-- the states one letter move away, and those one tree move away
+unfoldable pub byLetters : format.Rule → ℕ → ℕ → Bool
+byLetters R p p′ = anyBelow (R .letters) (λ a. goesTo p′ (letterMove R p a))
+
+unfoldable pub byTrees : format.Rule → ℕ → ℕ → Bool
+byTrees R p p′ = anyBelow (R .states) (λ lower. canEndTree R lower && goesTo p′ (treeMove R p lower))
+
+-- a table that has for each state the states one move away from it
+unfoldable pub Moves : format.Rule → List ℕ → Type 0
+Moves R table = (q : ℕ) → q < R .states → StandsFor (getD table q 0) (oneMove R q)
+
+-- the first n states, as far as they pass a test
+unfoldable pub firstOf : ℕ → (ℕ → Bool) → ℕ → Bool
+firstOf n test p = p <? n && test p
+
+-- the lower states whose tree move with u is neither none nor u
+unfoldable pub changing : format.Rule → ℕ → ℕ → Bool
+changing R u = firstOf (R .states) (λ p. not (noneOr u (treeMove R u p)))
+
+-- the word of the states reached from q in so many rounds, and a table of these words
+unfoldable pub reachedWord : format.Rule → ℕ → ℕ → ℕ
+reachedWord R i q = wordOf (reachedIn R i q)
+
+unfoldable pub Reached : format.Rule → ℕ → List ℕ → Type 0
+Reached R i table = (q : ℕ) → q < R .states → getD table q 0 ≡ reachedWord R i q
+
+-- a table that has the word of hold(u) for each state u
+unfoldable pub Holds : format.Rule → List ℕ → Type 0
+Holds R table = (u : ℕ) → u < R .states → getD table u 0 ≡ wordOf (holdMarks R u)

@@ -1,0 +1,59 @@
+// The maker of skip books: it checks the rule, finds Reach in rounds in its own room, and writes the book last.
+mod moves;
+mod rounds;
+mod sets;
+mod words;
+
+use meaning::Refusal;
+use rule::{Checked, Rule};
+ghost use mathlib.Core.Path.{_≡_};
+ghost use Rattle.meaning.specs.RuleFile.{ruleOf};
+ghost use Rattle.meaning.specs.SkipBook.{makeBook, bookAfter};
+ghost use Rattle.book.specs.Sets.{Accepted};
+ghost use Rattle.book.specs.Says.{madeSays};
+
+// What the maker answers: how many states are still, or a refusal.
+pub enum Made {
+    Still(u32),
+    Refused(Refusal),
+}
+
+// The numbers of the maker's own refusals.
+const BOOK_TOO_SHORT: u8 = 6;
+
+const ROUNDS_USED_UP: u8 = 15;
+
+// The book of an accepted rule.
+fn make_for(file: &[u8], rule: Rule, book: &mut [u64]) -> Made
+    requires { ⌜ Accepted (now file) rule ⌝ }
+    ensures { λ r. ⌜ madeSays r ≡ makeBook (now (file .entry)) (now (book .entry)) ⌝ }
+    ensures { λ r. ⌜ now (book .exit) ≡ bookAfter (makeBook (now (file .entry)) (now (book .entry))) (ruleOf (now (file .entry))) (now (book .entry)) ⌝ }
+{
+    let states = rule.states;
+    if book.len() <= states as usize {
+        return Made::Refused(Refusal {
+            number: BOOK_TOO_SHORT,
+            place: 0,
+        });
+    }
+    let moves = moves::all_moves(file, rule);
+    let reach = rounds::reach_from_all(&moves, states);
+    if rounds::last_adds(&moves, &reach, states) {
+        return Made::Refused(Refusal {
+            number: ROUNDS_USED_UP,
+            place: 0,
+        });
+    }
+    Made::Still(words::write_book(file, rule, &reach, book))
+}
+
+// The maker: the book of the rule that a file holds. A refused call leaves the book untouched.
+pub fn make_book(file: &[u8], book: &mut [u64]) -> Made
+    ensures { λ r. ⌜ madeSays r ≡ makeBook (now (file .entry)) (now (book .entry)) ⌝ }
+    ensures { λ r. ⌜ now (book .exit) ≡ bookAfter (makeBook (now (file .entry)) (now (book .entry))) (ruleOf (now (file .entry))) (now (book .entry)) ⌝ }
+{
+    match Rule::of_file(file) {
+        Checked::Refused(refusal) => Made::Refused(refusal),
+        Checked::Fine(rule) => make_for(file, rule, book),
+    }
+}

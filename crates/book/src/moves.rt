@@ -1,0 +1,97 @@
+// The moves of a rule as sets of states: each table is walked once.
+use rule::Rule;
+use crate::sets::{no_sets, only, with};
+ghost use mathlib.Core.Path.{_≡_};
+ghost use Prim.Native.Nat.{_<_};
+ghost use Rattle.meaning.specs.RuleFile.{asMove, ruleOf};
+ghost use mathlib.Core.Bool.{not};
+ghost use Rattle.meaning.specs.SkipBook.{goesTo, noneOr, oneMove};
+ghost use Rattle.book.specs.Sets.{StandsFor, Accepted, Moves, byLetters, byTrees, changing};
+
+// The state that a move leads to, as a set: empty where there is none.
+fn target(place: u8) -> u64
+    ensures { λ r. ⌜ StandsFor r (λ p. goesTo p (asMove place)) ⌝ }
+{
+    if place < Rule::MOST_STATES {
+        only(place)
+    } else {
+        0
+    }
+}
+
+// The states that the letters lead to from a state.
+fn by_letters(file: &[u8], rule: Rule, state: u8) -> u64
+    requires { ⌜ Accepted (now file) rule ⌝ }
+    requires { ⌜ state < rule .states ⌝ }
+    ensures { λ r. ⌜ StandsFor r (byLetters (ruleOf (now (file .entry))) state) ⌝ }
+{
+    let mut set: u64 = 0;
+    let mut letter: u16 = 0;
+    while letter < rule.letters {
+        set |= target(rule::tables::letter_move(file, rule, state, letter));
+        letter += 1;
+    }
+    set
+}
+
+// The states that the lower states lead to from an upper state.
+fn by_trees(file: &[u8], rule: Rule, upper: u8) -> u64
+    requires { ⌜ Accepted (now file) rule ⌝ }
+    requires { ⌜ upper < rule .states ⌝ }
+    ensures { λ r. ⌜ StandsFor r (byTrees (ruleOf (now (file .entry))) upper) ⌝ }
+{
+    let mut set: u64 = 0;
+    let mut lower: u8 = 0;
+    while lower < rule.states {
+        set |= target(rule::tables::tree_move(file, rule, upper, lower));
+        lower += 1;
+    }
+    set
+}
+
+// The states one move away from a state.
+fn moves_from(file: &[u8], rule: Rule, state: u8) -> u64
+    requires { ⌜ Accepted (now file) rule ⌝ }
+    requires { ⌜ state < rule .states ⌝ }
+    ensures { λ r. ⌜ StandsFor r (oneMove (ruleOf (now (file .entry))) state) ⌝ }
+{
+    let letters = by_letters(file, rule, state);
+    letters | by_trees(file, rule, state)
+}
+
+// For each state the states one move away from it.
+pub fn all_moves(file: &[u8], rule: Rule) -> [u64; 64]
+    requires { ⌜ Accepted (now file) rule ⌝ }
+    ensures { λ r. ⌜ Moves (ruleOf (now (file .entry))) r ⌝ }
+{
+    let mut table = no_sets();
+    let mut state: u8 = 0;
+    while state < rule.states {
+        table[state as usize] = moves_from(file, rule, state);
+        state += 1;
+    }
+    table
+}
+
+// Whether a tree move leads from its upper state to another one.
+fn changed(place: u8, upper: u8) -> bool
+    ensures { λ r. ⌜ r ≡ not (noneOr upper (asMove place)) ⌝ }
+{
+    place != Rule::NONE && place != upper
+}
+
+// The lower states whose tree move leads from an upper state to another one.
+pub fn changes(file: &[u8], rule: Rule, upper: u8) -> u64
+    requires { ⌜ Accepted (now file) rule ⌝ }
+    requires { ⌜ upper < rule .states ⌝ }
+    ensures { λ r. ⌜ StandsFor r (changing (ruleOf (now (file .entry))) upper) ⌝ }
+{
+    let mut set: u64 = 0;
+    let mut lower: u8 = 0;
+    while lower < rule.states {
+        let place = rule::tables::tree_move(file, rule, upper, lower);
+        set = with(set, lower, changed(place, upper));
+        lower += 1;
+    }
+    set
+}

@@ -1,0 +1,94 @@
+-- The book of a rule is its skip book: its sets are the rule's own still and hold(u). A word has the bits of its marks, the
+-- marks test all of Reach, and where rounds are not used up the marks of Reach are Reach.
+use mathlib.Core.Path.{_≡_, refl, sym, ap, _∙_}
+use mathlib.Core.Logic.{_↔_}
+use mathlib.Core.Bool.{Bool, true, false, not, _||_}
+use mathlib.Core.List.{List, [], _∷_, _++_}
+use Prim.Native.Nat.{ℕ, zero, suc, _+_, _^_, _≤_, _<_}
+use native.Mathlib.Numerals.{one-add, add-one}
+use lib.ListN.{length, getD, List·getD-append}
+use lib.Pow.{pow-pos}
+use borrow.Author.Tests.{eqb-true, eq-eqb}
+use Rattle.meaning.specs.Answers.{_=?_}
+use Rattle.meaning.specs.RuleFile.{Rule, IsRule, treeMove}
+use Rattle.meaning.specs.SkipBook.{Reach, Still, Hold, noneOr, anyBelow, allBelow, listed, marked, adds, reachedIn, reachMarks, roundsUsedUp, stillMarks, holdMarks, wordOf, bit, bookOf, inStill, inHold, IsBook}
+use Rattle.meaning.proofs.Marks.{implied, implies, any-none, all-at, all-of, listed-length, listed-at, listed-each, marked-below}
+use Rattle.meaning.proofs.Rounds.{reach-below, marks-are-reach}
+use Rattle.meaning.proofs.Bits.{bit-word, word-below}
+
+-- ---- the words of the book
+
+-- n+1 words
+pub book-length : (R : Rule) → length (bookOf R) ≡ R .states + 1
+unfolding bookOf
+book-length R = ap suc (listed-length (R .states) (λ u. wordOf (holdMarks R u))) ∙ sym (add-one (R .states))
+
+-- the bits for n and above are zero
+pub still-word-below : (R : Rule) → wordOf (stillMarks R) < 2 ^ R .states
+unfolding stillMarks
+still-word-below R = rw listed-length at (word-below (stillMarks R))
+
+pub hold-word-below : (R : Rule) (u : ℕ) → wordOf (holdMarks R u) < 2 ^ R .states
+unfolding holdMarks
+hold-word-below R u = rw listed-length at (word-below (holdMarks R u))
+
+pub words-below : (R : Rule) (i : ℕ) → getD (bookOf R) i 0 < 2 ^ R .states
+unfolding bookOf
+words-below R zero = still-word-below R
+words-below R (suc u) =
+    listed-each (λ w. w < 2 ^ R .states) (R .states) (λ v. wordOf (holdMarks R v)) 0 (hold-word-below R) (pow-pos (R .states)) u
+
+-- ---- the sets of the book
+
+-- a test that is the same as one that decides a statement decides it
+iff : {a b : Bool} {A : Type 0} → a ≡ b → (b ≡ true) ↔ A → (a ≡ true) ↔ A
+iff e d = (λ t. d .0 (sym e ∙ t), λ x. e ∙ d .1 x)
+
+module _ (R : Rule) (rest : List ℕ) where
+  pub in-still : (q : ℕ) → inStill (bookOf R ++ rest) q ≡ marked (stillMarks R) q
+  unfolding inStill bookOf
+  in-still q = bit-word (stillMarks R) q
+
+  pub in-hold : (u p : ℕ) → u < R .states → inHold (bookOf R ++ rest) u p ≡ marked (holdMarks R u) p
+  unfolding inHold bookOf
+  in-hold u p h =
+      let holds : List ℕ = listed (R .states) (λ v. wordOf (holdMarks R v)) in
+      let here : getD (bookOf R ++ rest) (1 + u) 0 ≡ wordOf (holdMarks R u) =
+          ap (λ (i : ℕ). getD (bookOf R ++ rest) i 0) (one-add u)
+          ∙ List·getD-append holds rest 0 u (rw listed-length h) ∙ listed-at (R .states) _ 0 u h in
+      ap (λ (w : ℕ). bit w p) here ∙ bit-word (holdMarks R u) p
+
+module _ (R : Rule) (rule : IsRule R) (fine : roundsUsedUp R ≡ false) where
+  reach-of : (q : ℕ) → q < R .states → (p : ℕ) → (marked (reachMarks R q) p ≡ true) ↔ Reach R q p
+  unfolding roundsUsedUp
+  reach-of q h = marks-are-reach R rule q h (any-none (R .states) (λ s. adds R (reachedIn R 63 s) (reachedIn R 64 s)) fine q h)
+
+  -- what holds of all marks of Reach(q) holds of all of Reach(q)
+  all-of-reach : (test : ℕ → Bool) (q : ℕ) → q < R .states
+      → (allBelow (R .states) (λ p. not (marked (reachMarks R q) p) || test p) ≡ true) ↔ ((p : ℕ) → Reach R q p → test p ≡ true)
+  all-of-reach test q h = (
+    λ e p r. implied (marked (reachMarks R q) p) (test p) (all-at (R .states) _ e p (reach-below R rule h r)) (reach-of q h p .1 r),
+    λ f. all-of (R .states) _ (λ p l. implies (marked (reachMarks R q) p) (test p) (λ m. f p (reach-of q h p .0 m))),
+  )
+
+  still-is : (q : ℕ) → q < R .states → (marked (stillMarks R) q ≡ true) ↔ Still R q
+  unfolding stillMarks Still
+  still-is q h =
+      let both = all-of-reach (λ p. p =? q) q h in
+      let at = marked-below (R .states) (λ q. allBelow (R .states) (λ p. not (marked (reachMarks R q) p) || p =? q)) q h in
+      iff at (λ e p r. eqb-true p q (both .0 e p r), λ f. both .1 (λ p r. eq-eqb p q (f p r)))
+
+  hold-is : (u p : ℕ) → p < R .states → (marked (holdMarks R u) p ≡ true) ↔ Hold R u p
+  unfolding holdMarks Hold
+  hold-is u p h =
+      let both = all-of-reach (λ p′. noneOr u (treeMove R u p′)) p h in
+      let at = marked-below (R .states) (λ p. allBelow (R .states) (λ p′. not (marked (reachMarks R p) p′) || noneOr u (treeMove R u p′))) p h in
+      iff at both
+
+  -- the book that the maker writes is the rule's skip book, whatever stands after it
+  pub made-is-book : (rest : List ℕ) → IsBook R (bookOf R ++ rest)
+  made-is-book rest =
+      record {
+        stillIs = λ q h. iff (in-still R rest q) (still-is q h);
+        holdIs = λ u p hu hp. iff (in-hold R rest u p hu) (hold-is u p hp);
+      }
