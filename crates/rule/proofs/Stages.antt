@@ -1,4 +1,4 @@
--- The rule check in the stages in which the code makes it: the first record, the four numbers, and the three tables.
+-- The rule check and the checks of the writer in the stages in which the code makes them: the numbers, and then the tables.
 use mathlib.Core.Path.{_≡_, refl}
 use mathlib.Core.Bool.{Bool, true, false}
 use mathlib.Core.List.{List, []}

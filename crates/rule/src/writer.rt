@@ -14,7 +14,7 @@ ghost use mathlib.Core.Path.{_≡_};
 ghost use Prim.Native.Nat.{_+_, _≤_, _%_};
 ghost use lib.ListN.{length};
 ghost use mathlib.Core.List.{[], _++_};
-ghost use Rattle.meaning.specs.RuleFile.{numbersBody, recordBytes, ruleBytes, writeCheck, outputAfter};
+ghost use Rattle.meaning.specs.RuleFile.{numbersBody, recordBytes, writeCheck, outputAfter};
 ghost use Rattle.rule.specs.Says.{writtenSays};
 ghost use Rattle.rule.specs.Checks.{outcomeSays, ruleFrom, givenCheck};
 ghost use Rattle.rule.specs.Laid.{laid, headerBytes};
