@@ -4,7 +4,7 @@ use rule::Checked;
 use rule::Rule;
 use rule::check;
 ghost use mathlib.Core.Path.{_≡_};
-ghost use Prim.Native.Nat.{_+_, _*_};
+ghost use Prim.Native.Nat.{_+_, _*_, _≤_};
 ghost use Rattle.meaning.specs.Answers.{refused};
 ghost use lib.ListN.{length};
 ghost use Rattle.meaning.specs.CheckProgram.{eventsHeader, frontCheck};
@@ -14,7 +14,7 @@ ghost use Rattle.input.specs.Says.{frontSays, headerAnswer};
 // Where the record of events starts, which is where the rule's file ends, and how many bytes its body has.
 pub struct EventsAt {
     pub place: usize,
-    pub size: usize,
+    pub size: u32,
 }
 
 // What the front of an input says: where its events are, or the refusal of a bad record.
@@ -48,7 +48,7 @@ fn header_at(front: &[u8], place: usize) -> Front
     if check::number2(front, place + 4) != EVENTS {
         return refuse(2, place + 4);
     }
-    let size = check::number4(front, place) as usize;
+    let size = check::number4(front, place);
     if size % 2 == 1 {
         return refuse(3, place);
     }
@@ -89,6 +89,7 @@ fn event(low: u8, high: u8) -> u16
 // The events that bytes hold, into the front of a lent slice; the rest stays. It answers their count.
 pub fn decode(bytes: &[u8], events: &mut [u16]) -> usize
     ensures count { λ r. ⌜ r ≡ eventCount (length (now (bytes .entry))) (length (now (events .entry))) ⌝ }
+    ensures fits { λ r. ⌜ r ≤ length (now (events .entry)) ⌝ }
     ensures events { λ r. ⌜ now (events .exit) ≡ decoded r (now (bytes .entry)) (now (events .entry)) ⌝ }
 {
     let count = event_count(bytes.len(), events.len());

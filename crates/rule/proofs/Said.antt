@@ -25,7 +25,7 @@ fine-accepted file rule e =
     let g = giving-given (checkRule file) (λ R. given (numbersOf R)) (sym e) in
     (g .0, g .1, cc (g .2))
 
-giving-refused : {A B : Type 0} (x : Answer A) (f : A → Answer B) (number place : ℕ)
+pub giving-refused : {A B : Type 0} (x : Answer A) (f : A → Answer B) (number place : ℕ)
     → ((a : A) → (b : B) × (f a ≡ given b)) → (x giving f) ≡ refused number place → x ≡ refused number place
 unfolding _giving_
 giving-refused (given a) f number place gives e =

@@ -72,7 +72,7 @@ returns c =
     let a = c .before .before .before .before .before .args in
     let l = c .before .loop in
     let all : l .i ≡ c .before .before .event-count .result = omega arith in
-    (c .before .before .event-count .ensures, l .inv .2 ∙ ap (λ (n : ℕ). decoded n (now (a .bytes)) (now (a .events))) all)
+    (c .before .before .event-count .ensures, (l .inv .1 .inPlaces, l .inv .2 ∙ ap (λ (n : ℕ). decoded n (now (a .bytes)) (now (a .events))) all))
 
 pub decode-spec : {M : Type 1} → statement M
 decode-spec =

@@ -47,9 +47,6 @@ returns-3 c =
 number4-requires : tie.Need-number4-requires
 number4-requires c κs = search needs
 
-cast-size : tie.Need-cast-size
-cast-size c = search needs
-
 refuse-requires-4 : tie.Need-refuse-requires-4
 refuse-requires-4 c κs = search needs
 
@@ -83,7 +80,6 @@ header-at-spec =
     refuse-requires-3
     returns-3
     number4-requires
-    cast-size
     refuse-requires-4
     returns-4
     returns-5)

@@ -1,0 +1,6 @@
+pub mod Turned
+pub mod Store
+pub mod Steps
+pub mod Going
+pub mod Checks
+pub mod PassesOn

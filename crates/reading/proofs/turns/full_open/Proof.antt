@@ -1,0 +1,65 @@
+-- `reading::turns::full_open` meets its contract: the room, and then a look at the tree start.
+-- Assumes nothing.
+use borrow.Author.Needs.{needs}
+use mathlib.Core.Path.{sym, _∙_}
+use borrow.Author.Tests.{le-leb}
+use Rattle.meaning.specs.FullReading.{fullTurn, noMoveNumber, startTable, opened}
+use Rattle.meaning.proofs.Answered.{refuse-stops}
+use Rattle.reading.specs.Turns.{turnSays}
+use Rattle.reading.proofs.Turned.{open-turn, look-gives, look-refuses}
+use Rattle.reading.proofs.turns.full_open.Statement.{statement}
+use Rattle.reading.proofs.turns.full_open.Tie as tie
+
+cast-depth : tie.Need-cast-depth
+cast-depth c = search needs
+
+look-refused-requires : tie.Need-look-refused-requires
+look-refused-requires c κs = search needs
+
+refused-event-requires : tie.Need-refused-event-requires
+refused-event-requires c κs = search needs
+
+returns : tie.Need-returns
+unfolding fullTurn
+returns c = λ file top h. c .refused-event .ensures ∙ sym (refuse-stops 8 _ _ (le-leb _ _ (c .before .if1 .taken)))
+
+refused-event-requires-2 : tie.Need-refused-event-requires-2
+refused-event-requires-2 c κs = search needs
+
+returns-2 : tie.Need-returns-2
+unfolding noMoveNumber
+returns-2 c =
+    let s = c .before .before .before .before .before in
+    let number = c .before .before .before .look-refused .ensures in
+    λ file top h. c .refused-event2 .ensures
+    ∙ rw number
+    (sym (open-turn h _ _ (s .args .reading) top (c .before .before .if1 .left)
+    ∙ look-refuses _ (s .args .reading) startTable _ _ (rw (← number) (c .before .if2 .taken))))
+
+add-looked : tie.Need-add-looked
+add-looked c = search needs
+
+looked-requires : tie.Need-looked-requires
+looked-requires c κs = search needs
+
+returns-3 : tie.Need-returns-3
+unfolding turnSays noMoveNumber opened
+returns-3 c =
+    let s = c .before .before .before .before .before .before in
+    let number = c .before .before .before .before .look-refused .ensures in
+    λ file top h. sym (open-turn h _ _ (s .args .reading) top (c .before .before .before .if1 .left)
+    ∙ rw (c .looked .ensures) (look-gives _ (s .args .reading) startTable _ _ (sym number ∙ c .before .before .if2 .left)))
+
+pub full-open-spec : {M : Type 1} → statement M
+full-open-spec =
+    tie.close
+    (tie.spec
+    cast-depth
+    look-refused-requires
+    refused-event-requires
+    returns
+    refused-event-requires-2
+    returns-2
+    add-looked
+    looked-requires
+    returns-3)

@@ -1,0 +1,5 @@
+pub mod Turns
+pub mod Store
+pub mod Feeding
+pub mod Checks
+pub mod PassingOver

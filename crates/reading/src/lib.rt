@@ -1,0 +1,110 @@
+// The reading of events: what one event leads to, by value, and the calls over the lent level store.
+mod checking;
+mod ending;
+mod feeding;
+mod levels;
+mod passing;
+mod settling;
+mod turns;
+
+use checking::reading_check;
+use ending::end_of;
+use feeding::feed_events;
+use levels::top_level;
+use meaning::End;
+use meaning::Fed;
+use meaning::Feeding;
+use meaning::Level;
+use meaning::Reading;
+use meaning::Refusal;
+use rule::Checked;
+use rule::Rule;
+ghost use mathlib.Core.Path.{_≡_};
+ghost use Rattle.meaning.specs.Calls.{endSays, feedCall, finishCall, freshCall};
+ghost use Rattle.reading.specs.Store.{storeOf};
+ghost use Rattle.reading.specs.Feeding.{FedIs};
+ghost use Rattle.reading.specs.Checks.{begunSays};
+
+// What one event leads to: the open levels stay, a record is stored for one more level, the innermost level ends, or
+// the event is refused.
+pub enum Turn {
+    Stays(Reading),
+    Stores(Level, Reading),
+    Ends(Reading),
+    Refused(Refusal),
+}
+
+// What becomes of an event that is handed to a reading over a level store: the next reading, or a refusal.
+pub enum Step {
+    To(Reading),
+    Refused(Refusal),
+}
+
+// Where passing over a run of events was left: the reading there, and the index of the next event.
+pub struct PassedOver {
+    pub reading: Reading,
+    pub next: usize,
+}
+
+// What a fresh reading answers: the reading, or the refusal of the rule.
+pub enum Begun {
+    At(Reading),
+    Refused(Refusal),
+}
+
+// A fresh reading of a rule, given as the bytes of its file.
+pub fn fresh(file: &[u8]) -> Begun
+    ensures { λ r. ⌜ begunSays r ≡ freshCall (now (file .entry)) ⌝ }
+{
+    match Rule::of_file(file) {
+        Checked::Fine(rule) => Begun::At(Reading {
+            state: rule.initial,
+            depth: 0,
+            skip: 0,
+            taken: 0,
+            looks: 0,
+        }),
+        Checked::Refused(refusal) => Begun::Refused(refusal),
+    }
+}
+
+// Feed events to a reading, over the lent level store. The rule check is once a call.
+pub fn feed(
+    file: &[u8],
+    book: &[u64],
+    ceiling: u32,
+    reading: Reading,
+    states: &mut [u8],
+    places: &mut [u32],
+    events: &[u16],
+) -> Fed
+    ensures { λ r. ⌜ FedIs (feedCall (now (file .entry)) (now (book .entry)) ceiling reading (storeOf (now (states .entry)) (now (places .entry))) (now (events .entry))) reading r (now (states .entry)) (now (places .entry)) (now (states .exit)) (now (places .exit)) ⌝ }
+{
+    match reading_check(file, book, reading, states, places) {
+        Checked::Fine(rule) => feed_events(
+            file,
+            rule,
+            book,
+            ceiling,
+            reading,
+            states,
+            places,
+            events,
+        ),
+        Checked::Refused(refusal) => Fed {
+            taken: 0,
+            reading,
+            ended: Feeding::Refused(refusal),
+        },
+    }
+}
+
+// The end of a reading: the verdict of its state, or a refusal where a level or skip depth is open.
+pub fn finish(file: &[u8], book: &[u64], reading: Reading, states: &[u8], places: &[u32]) -> End
+    ensures { λ r. ⌜ endSays r ≡ finishCall (now (file .entry)) (now (book .entry)) reading (storeOf (now (states .entry)) (now (places .entry))) ⌝ }
+{
+    match reading_check(file, book, reading, states, places) {
+        Checked::Fine(rule) => end_of(file, rule, reading, top_level(states, places, reading)),
+        Checked::Refused(refusal) => End::Refused(refusal),
+    }
+}
