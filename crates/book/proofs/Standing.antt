@@ -143,10 +143,10 @@ turn-next table set all rest pos t =
     record {
       small = omega (arith, cleared-less rest pos, t .small);
       same = λ p l. let left : Bool = anyBelow 64 (λ m. bit (bitAnd rest (rest - 1)) m && bit (getD table m 0) p) in
-          ap (λ (b : Bool). b || left) (bit-or all (getD table (trailingZeros 64 rest) 0) p)
-          ∙ or-assoc (bit all p) (bit (getD table (trailingZeros 64 rest) 0) p) left
-          ∙ ap (λ (b : Bool). bit all p || b) (sym (lowest-first rest pos (t .small) (λ m. bit (getD table m 0) p)))
-          ∙ t .same p l;
+      ap (λ (b : Bool). b || left) (bit-or all (getD table (trailingZeros 64 rest) 0) p)
+      ∙ or-assoc (bit all p) (bit (getD table (trailingZeros 64 rest) 0) p) left
+      ∙ ap (λ (b : Bool). bit all p || b) (sym (lowest-first rest pos (t .small) (λ m. bit (getD table m 0) p)))
+      ∙ t .same p l;
     }
 
 pub turn-last : (table : List ℕ) (set all rest : ℕ) → rest ≡ 0 → Turn table set all rest → StandsFor all (joined table set)

@@ -5,8 +5,7 @@ mod sets;
 mod words;
 
 use meaning::Refusal;
-use rule::Checked;
-use rule::Rule;
+use rule::{Checked, Rule};
 ghost use mathlib.Core.Path.{_≡_};
 ghost use Rattle.meaning.specs.RuleFile.{ruleOf};
 ghost use Rattle.meaning.specs.SkipBook.{makeBook, bookAfter};

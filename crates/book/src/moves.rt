@@ -1,8 +1,6 @@
 // The moves of a rule as sets of states: each table is walked once.
-use crate::sets::no_sets;
-use crate::sets::only;
-use crate::sets::with;
 use rule::Rule;
+use crate::sets::{no_sets, only, with};
 ghost use mathlib.Core.Path.{_≡_};
 ghost use Prim.Native.Nat.{_<_};
 ghost use Rattle.meaning.specs.RuleFile.{asMove, ruleOf};

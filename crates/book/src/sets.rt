@@ -25,7 +25,11 @@ pub fn with(set: u64, state: u8, member: bool) -> u64
     requires { ⌜ state < 64 ⌝ }
     ensures { λ r. ⌜ ((test : ℕ → Bool) → test state ≡ member → StandsFor set (firstOf state test) → StandsFor r (firstOf (state + 1) test)) ⌝ }
 {
-    if member { set | only(state) } else { set }
+    if member {
+        set | only(state)
+    } else {
+        set
+    }
 }
 
 // The set, and with it all states that the table has for a member.

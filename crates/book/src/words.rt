@@ -1,9 +1,7 @@
 // The words of the book: still, hold(u) for each state u, and how they are written.
-use crate::moves::changes;
-use crate::sets::no_sets;
-use crate::sets::only;
-use crate::sets::with;
 use rule::Rule;
+use crate::moves::changes;
+use crate::sets::{no_sets, only, with};
 ghost use mathlib.Core.Path.{_≡_};
 ghost use mathlib.Core.List.{_∷_, _++_};
 ghost use Prim.Native.Nat.{_+_, _^_, _≤_, _<_};

@@ -54,8 +54,8 @@ module _ (R : Rule) (rest : List ℕ) where
   in-hold u p h =
       let holds : List ℕ = listed (R .states) (λ v. wordOf (holdMarks R v)) in
       let here : getD (bookOf R ++ rest) (1 + u) 0 ≡ wordOf (holdMarks R u) =
-      ap (λ (i : ℕ). getD (bookOf R ++ rest) i 0) (one-add u)
-      ∙ List·getD-append holds rest 0 u (rw listed-length h) ∙ listed-at (R .states) _ 0 u h in
+          ap (λ (i : ℕ). getD (bookOf R ++ rest) i 0) (one-add u)
+          ∙ List·getD-append holds rest 0 u (rw listed-length h) ∙ listed-at (R .states) _ 0 u h in
       ap (λ (w : ℕ). bit w p) here ∙ bit-word (holdMarks R u) p
 
 module _ (R : Rule) (rule : IsRule R) (fine : roundsUsedUp R ≡ false) where

@@ -147,7 +147,6 @@ marked-true n f p e = ⊎-elim inside outside (truth (p <? n))
   where
     inside : (p <? n) ≡ true → (p < n) × (f p ≡ true)
     inside t = let h : p < n = ltb-true p n t in (h, sym (marked-below n f p h) ∙ e)
-
     outside : (p <? n) ≡ false → (p < n) × (f p ≡ true)
     outside t = absurd-truth e (marked-past n f p (ltb-false p n t))
 

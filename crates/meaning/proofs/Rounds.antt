@@ -28,7 +28,6 @@ move-to x {q} e = ⊎-elim no-move some (truth (x =? none))
   where
     no-move : (x =? none) ≡ true → ((x =? none) ≡ false) × (x ≡ q)
     no-move t = let z : _≡_ {A = ℕ} 0 1 = cc (if-true noMove (to x) t) in absurd (omega arith)
-
     some : (x =? none) ≡ false → ((x =? none) ≡ false) × (x ≡ q)
     some f = (f, cc (if-false noMove (to x) f))
 
@@ -54,6 +53,7 @@ pub goes-true : (p : ℕ) (m : Move) → goesTo p m ≡ true → m ≡ to p
 unfolding goesTo
 goes-true p noMove e = absurd (false≢true e)
 goes-true p (to q) e = ap to (eqb-true q p e)
+
 
 -- ---- one move
 
@@ -85,7 +85,6 @@ module _ (R : Rule) where
     where
       byLetters : anyBelow (R .letters) (λ a. goesTo p′ (letterMove R p a)) ≡ true → Reach R q p′
       byLetters t = let s = any-some (R .letters) _ t in byLetter (s .0) r (s .1) (goes-true p′ _ (s .2))
-
       byTrees : anyBelow (R .states) (λ lower. canEndTree R lower && goesTo p′ (treeMove R p lower)) ≡ true → Reach R q p′
       byTrees t =
           let s = any-some (R .states) _ t in
@@ -200,7 +199,7 @@ module _ (R : Rule) where
   marks-are-reach rule q h e p = (
     marked-reached 64 q p,
     λ r. rw (next-round 63 q) (round-keeps (reachedIn R 63 q) p (reach-below rule h r)
-        (reached-marked rule q (reachedIn R 63 q) h (start-marked 63 q h) (rw (next-round 63 q) at e) r)),
+    (reached-marked rule q (reachedIn R 63 q) h (start-marked 63 q h) (rw (next-round 63 q) at e) r)),
   )
 
   -- ---- rounds are never used up: each round before the last adds one of at most 64 states
@@ -248,7 +247,7 @@ module _ (R : Rule) where
   many-marked (suc i) q h e =
       let r : List Bool = reachedIn R i q in
       let added : adds R r (reachedIn R (suc i) q) ≡ true =
-      ⊎-elim (λ t. t) (λ f. absurd-truth e (rests i q f)) (truth (adds R r (reachedIn R (suc i) q))) in
+          ⊎-elim (λ t. t) (λ f. absurd-truth e (rests i q f)) (truth (adds R r (reachedIn R (suc i) q))) in
       let more = adds-more (reachedIn R (suc i) q) (rw (next-round (suc i) q) at e) in
       rw (next-round (suc i) q) (omega (arith, many-marked i q h added, more))
 
