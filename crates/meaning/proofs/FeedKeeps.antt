@@ -13,7 +13,7 @@ viewed view w = record { last = view (w .last); ended = w .ended }
 
 module _ {A : Type 0} (step : A → ℕ → Answer A) where
   -- an event that is taken, and on
-  feed-taken : {a b : A} {e : ℕ} (es : List ℕ) → step a e ≡ given b → feedBy step a (e ∷ es) ≡ feedBy step b es
+  pub feed-taken : {a b : A} {e : ℕ} (es : List ℕ) → step a e ≡ given b → feedBy step a (e ∷ es) ≡ feedBy step b es
   unfolding feedBy goOn
   feed-taken es t = rw (t, goOn)
 

@@ -1,16 +1,15 @@
 -- The whole-document call: once the maker gave its count, a fresh reading with the made book passes every check of feed and
 -- finish, so feeding the events and taking the end of what was fed is what those calls answer in turn.
-use mathlib.Core.Path.{_≡_, refl, sym, ap, _∙_}
+use mathlib.Core.Path.{_≡_, refl, sym, _∙_}
 use mathlib.Core.List.{List}
-use Prim.Native.Nat.{ℕ, _+_, _<_}
+use Prim.Native.Nat.{ℕ, _<_}
 use native.Mathlib.Omega.{arith}
 use lib.ListN.{length}
-use Rattle.meaning.specs.Answers.{Answer, given, refused, _giving_}
+use Rattle.meaning.specs.Answers.{given, refused}
 use Rattle.meaning.specs.RuleFile.{checkRule, ruleOf}
 use Rattle.meaning.specs.FullReading.{Went, freshReading, feedBy}
 use Rattle.meaning.specs.SkipBook.{makeBook, bookAfter}
-use Rattle.meaning.specs.Calls as calls
-use Rattle.meaning.specs.Calls.{Stored, Judged, refusalSays, feedingSays, endSays, storeStep, topOf, endOf, finishCall, finishFed, largestCeiling, readWith, wholeDocument}
+use Rattle.meaning.specs.Calls.{Stored, refusalSays, feedingSays, endSays, storeStep, topOf, endOf, finishFed, largestCeiling, readWith, wholeDocument}
 use Rattle.meaning.specs.declared.End.{End}
 use Rattle.meaning.specs.declared.End.the-variants as end
 use Rattle.meaning.specs.declared.Fed.{Fed}

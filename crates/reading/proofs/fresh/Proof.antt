@@ -1,7 +1,7 @@
 -- `reading::fresh` meets its contract: what the rule check refused, or the fresh reading of the accepted file's rule.
 -- Assumes nothing.
 use borrow.Author.Needs.{needs}
-use mathlib.Core.Path.{_≡_, sym, _∙_, ap}
+use mathlib.Core.Path.{sym}
 use Rattle.meaning.specs.Calls.{refusalSays, freshCall}
 use Rattle.meaning.proofs.Answered.{giving-passes, giving-stops}
 use Rattle.rule.proofs.Said.{refused-check}

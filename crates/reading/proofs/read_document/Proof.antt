@@ -2,8 +2,7 @@
 -- maker that gave its count the rule check passes.
 -- Assumes nothing.
 use borrow.Author.Needs.{needs}
-use mathlib.Core.Path.{_≡_, sym, _∙_, ap}
-use Rattle.meaning.specs.Calls.{refusalSays}
+use mathlib.Core.Path.{sym}
 use Rattle.book.specs.Says.{madeSays}
 use Rattle.rule.proofs.Said.{refused-check}
 use Rattle.reading.proofs.Checks.{ruled-by}

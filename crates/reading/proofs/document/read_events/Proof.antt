@@ -2,7 +2,7 @@
 -- end of the definition.
 -- Assumes nothing.
 use borrow.Author.Needs.{needs}
-use mathlib.Core.Path.{_≡_, sym, _∙_, ap}
+use mathlib.Core.Path.{_∙_}
 use denote.Ref.{now}
 use Rattle.meaning.specs.RuleFile.{ruleOf}
 use Rattle.meaning.specs.FullReading.{freshReading}
