@@ -5,3 +5,4 @@ pub mod Going
 pub mod Checks
 pub mod PassesOn
 pub mod WholeRead
+pub mod OneOutcome

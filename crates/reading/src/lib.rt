@@ -33,7 +33,7 @@ ghost use Rattle.reading.specs.Whole.{ReadIs};
 
 // What one event leads to: the open levels stay, a record is stored for one more level, the innermost level ends, or
 // the event is refused.
-pub enum Turn {
+enum Turn {
     Stays(Reading),
     Stores(Level, Reading),
     Ends(Reading),
@@ -41,13 +41,13 @@ pub enum Turn {
 }
 
 // What becomes of an event that is handed to a reading over a level store: the next reading, or a refusal.
-pub enum Step {
+enum Step {
     To(Reading),
     Refused(Refusal),
 }
 
 // Where passing over a run of events was left: the reading there, and the index of the next event.
-pub struct PassedOver {
+struct PassedOver {
     pub reading: Reading,
     pub next: usize,
 }
