@@ -72,7 +72,7 @@ module _ (R : Rule) (book : List ℕ) (r : Reading) (store : List Level) where
 -- ---- one event
 
 -- a held level is not the top
-held-deep : (book : List ℕ) (r : Reading) (l : Level) → held book r l ≡ true → 0 < r .depth
+pub held-deep : (book : List ℕ) (r : Reading) (l : Level) → held book r l ≡ true → 0 < r .depth
 unfolding held
 held-deep book r l is = ltb-true 0 (r .depth) (and-true (0 <? r .depth) (inHold book (l .above) (r .state)) is .0)
 

@@ -7,8 +7,7 @@ use Prim.Native.Nat.{ℕ, _+_, _≤_, _<_}
 use native.Mathlib.Omega.{arith}
 use borrow.Author.Tests.{lt-ltb, le-ltb}
 use lib.ListN.{length}
-use Rattle.meaning.specs.Answers.{Answer, given, refused, _giving_}
-use Rattle.meaning.specs.RuleFile as format
+use Rattle.meaning.specs.Answers.{given, refused}
 use Rattle.meaning.specs.RuleFile.{checkRule, ruleOf}
 use Rattle.meaning.specs.Calls.{refusalSays, notReading, readingCheck}
 use Rattle.meaning.specs.declared.Level.{Level}

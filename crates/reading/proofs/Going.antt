@@ -2,8 +2,8 @@
 -- to, what was a reading still is one, and the slices hold the store. One event that is taken keeps it; a refused one, or the
 -- end of the events, gives the answer.
 use mathlib.Core.Path.{_≡_, refl, sym, ap, _∙_}
-use mathlib.Core.List.{List, [], _∷_}
-use Prim.Native.Nat.{ℕ, suc, _+_, _-_, _≤_, _<_}
+use mathlib.Core.List.{List, _∷_}
+use Prim.Native.Nat.{ℕ, _+_, _-_, _≤_, _<_}
 use native.Mathlib.Numerals.{add-one}
 use native.Mathlib.Omega.{arith}
 use lib.ListN.{length, getD, drop, drop-of-length-le}
@@ -11,21 +11,20 @@ use lib.Seq.{drop-cons}
 use Rattle.meaning.specs.Answers.{Answer, given, refused}
 use Rattle.meaning.specs.RuleFile as format
 use Rattle.meaning.specs.RuleFile.{ruleOf}
-use Rattle.meaning.specs.FullReading.{Event, Turn, Went, looked, goOn, feedBy}
+use Rattle.meaning.specs.FullReading.{Event, Turn, Went, looked, feedBy}
 use Rattle.meaning.specs.Skipping.{passed}
 use Rattle.meaning.specs.Calls.{Stored, topOf, storedAfter, storeStep, refusalSays, feedingSays}
-use Rattle.meaning.specs.declared.Fed.{Fed}
 use Rattle.meaning.specs.declared.Feeding.{Feeding}
 use Rattle.meaning.specs.declared.Feeding.the-variants as feeding
 use Rattle.meaning.specs.declared.Level.{Level}
 use Rattle.meaning.specs.declared.Reading.{Reading}
 use Rattle.meaning.specs.declared.Refusal.{Refusal}
 use Rattle.meaning.proofs.Accepted.{accepted-is-rule}
+use Rattle.meaning.proofs.FeedKeeps.{feed-taken}
 use Rattle.meaning.proofs.StillReading.{IsReading, reading-is, still-reading}
 use Rattle.meaning.proofs.StoreView.{step-turned, step-within}
 use Rattle.meaning.proofs.Turns.{Turned, passes, endsHeld, takesLetter, storesOpen, endsLooked}
 use Rattle.rule.specs.declared.Rule.{Rule}
-use Rattle.reading.specs.declared.Step.{Step}
 use Rattle.reading.specs.declared.Step.the-variants as step
 use Rattle.reading.specs.Store.{storeOf, Holds}
 use Rattle.reading.specs.Feeding.{Feeds, over, stepSays, storeAfter, Stepped, FedIs}
@@ -34,7 +33,7 @@ use Rattle.reading.specs.declared.PassedOver.{PassedOver}
 use Rattle.reading.proofs.Store.{holds-same, holds-store, holds-again, holds-length}
 use Rattle.reading.proofs.PassesOn.{on-settled}
 use Rattle.reading.proofs.Turned.{letters-are}
-use Rattle.reading.proofs.Steps.{reading-in, feed-taken, feed-refused, feed-none}
+use Rattle.reading.proofs.Steps.{reading-in, feed-refused, feed-none}
 
 -- ---- the answer, from where feeding led to
 

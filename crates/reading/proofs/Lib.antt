@@ -4,3 +4,5 @@ pub mod Steps
 pub mod Going
 pub mod Checks
 pub mod PassesOn
+pub mod WholeRead
+pub mod OneOutcome

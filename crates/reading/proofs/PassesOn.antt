@@ -1,9 +1,9 @@
 -- Passing over on a settled level by counting, which its loop keeps: feeding from here comes to what feeding from the start
 -- comes to. One known event that does not end the level is taken without a look, and only the skip depth and the events taken
 -- change, so the level stays settled.
-use mathlib.Core.Path.{_≡_, refl, sym, ap, _∙_}
+use mathlib.Core.Path.{_≡_, refl, ap, _∙_}
 use mathlib.Core.Bool.{true}
-use mathlib.Core.List.{List, _∷_}
+use mathlib.Core.List.{List}
 use Prim.Native.Nat.{ℕ, zero, suc, _+_, _-_, _≤_, _<_}
 use native.Mathlib.Numerals.{add-one}
 use native.Mathlib.Omega.{arith}
@@ -17,11 +17,11 @@ use Rattle.meaning.specs.Skipping.{held, settled, passed, settledTurn, skipTurn
 use Rattle.meaning.specs.Calls.{topOf, storedAfter, storeStep}
 use Rattle.meaning.specs.declared.Level.{Level}
 use Rattle.meaning.specs.declared.Reading.{Reading}
+use Rattle.meaning.proofs.FeedKeeps.{feed-taken}
 use Rattle.meaning.proofs.Answered.{if-true, if-false, refuse-passes, giving-passes}
 use Rattle.reading.specs.Feeding.{over}
 use Rattle.reading.specs.PassingOver.{openings, closings, passedOn, PassesOver}
 use Rattle.reading.specs.declared.PassedOver.{PassedOver}
-use Rattle.reading.proofs.Steps.{feed-taken}
 
 -- ---- the trees that an event opens and closes
 

@@ -1,16 +1,15 @@
 -- One event over the level store, from what its turn says: the turn may count on what number 13 lets through, and what it
 -- says becomes of reading and store is the definition's step.
-use mathlib.Core.Path.{_≡_, refl, sym, ap, _∙_}
+use mathlib.Core.Path.{_≡_, refl, sym}
 use mathlib.Core.Bool.{true}
 use mathlib.Core.List.{List, [], _∷_}
-use Prim.Native.Nat.{ℕ, _+_, _-_, _≤_, _<_}
+use Prim.Native.Nat.{ℕ, _-_, _<_}
 use native.Mathlib.Omega.{arith}
 use borrow.Author.Tests.{ltb-true}
-use lib.ListN.{length, set}
+use lib.ListN.{length}
 use Rattle.meaning.specs.Answers.{Answer, given, refused, _giving_}
 use Rattle.meaning.specs.RuleFile as format
 use Rattle.meaning.specs.RuleFile.{isState, ruleOf}
-use Rattle.meaning.specs.FullReading as full
 use Rattle.meaning.specs.FullReading.{Event, stores, goOn, feedBy}
 use Rattle.meaning.specs.Skipping.{skipEvent}
 use Rattle.meaning.specs.Calls.{Stored, refusalSays, topOf, storedAfter, storeStep}
@@ -26,16 +25,11 @@ use Rattle.reading.specs.declared.Step.the-variants as step
 use Rattle.reading.specs.Turns.{turnSays, Ready}
 use Rattle.reading.specs.Store.{storeOf, Holds}
 use Rattle.reading.specs.Feeding.{Feeds, over, stepSays, storeAfter, Stepped}
-use Rattle.reading.proofs.Store.{holds-same}
 use Rattle.reading.proofs.Turned.{states-are}
 
--- ---- feeding a first event, or none
+-- ---- feeding a refused event, or none
 
 module _ {A : Type 0} (step : A → ℕ → Answer A) where
-  pub feed-taken : {a b : A} {e : ℕ} (es : List ℕ) → step a e ≡ given b → feedBy step a (e ∷ es) ≡ feedBy step b es
-  unfolding feedBy goOn
-  feed-taken es t = rw (t, goOn)
-
   pub feed-refused : {a : A} {e number place : ℕ} (es : List ℕ) → step a e ≡ refused number place
       → feedBy step a (e ∷ es) ≡ record { last = a; ended = refused number place }
   unfolding feedBy goOn

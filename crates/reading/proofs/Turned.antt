@@ -1,21 +1,20 @@
 -- Laws of one event, which the proofs of the functions cite: what a look in a table gives, which event a number is, and that
 -- the numbers the code holds are those of the rule.
-use mathlib.Core.Path.{_≡_, refl, sym, ap, _∙_}
+use mathlib.Core.Path.{_≡_, refl, ap, _∙_}
 use mathlib.Core.Bool.{Bool, true, false, _||_}
 use mathlib.Core.List.{List}
 use Prim.Native.Nat.{ℕ, zero, suc, _+_, _-_, _≤_, _<_}
 use native.Mathlib.Omega.{arith}
-use borrow.Author.Tests.{eq-eqb, ne-eqb, leb-true, lt-leb, ltb-true}
+use borrow.Author.Tests.{ne-eqb, leb-true, lt-leb, ltb-true}
 use lib.ListN.{length}
-use Rattle.meaning.specs.Answers.{Answer, given, refused, refuse_at_when_otherwise_, if_then_else_, _≤?_, _<?_, _=?_}
-use Rattle.meaning.specs.RuleFile as format
+use Rattle.meaning.specs.Answers.{Answer, given, refused, refuse_at_when_otherwise_, if_then_else_, _≤?_, _=?_}
 use Rattle.meaning.specs.RuleFile.{none, mostStates, mostLetters, classCount, asMove, classOf, isClass, isStates, isLetters, ruleOf, to, noMove, treeStartMove}
-use Rattle.meaning.specs.FullReading.{Event, opens, closes, letter, eventOf, mostEvents, knownEvent, Table, letterTable, startTable, treeTable, noMoveNumber, look, looked, opened, fullTurn, Turn, stays, stores, ends}
-use Rattle.meaning.specs.SkipBook.{inStill, inHold}
+use Rattle.meaning.specs.FullReading.{opens, closes, letter, eventOf, mostEvents, knownEvent, Table, letterTable, startTable, treeTable, noMoveNumber, look, looked, opened, fullTurn, Turn, stays, stores, ends}
+use Rattle.meaning.specs.SkipBook.{inStill}
 use Rattle.meaning.specs.Skipping.{held, settled}
 use Rattle.meaning.specs.declared.Reading.{Reading}
 use Rattle.meaning.specs.declared.Level.{Level}
-use Rattle.meaning.proofs.Answered.{if-true, if-false, and-true, refuse-passes}
+use Rattle.meaning.proofs.Answered.{and-true, refuse-passes}
 use Rattle.meaning.proofs.Bools.{or-true-right}
 use Rattle.meaning.proofs.Accepted.{accepted-is-rule}
 use Rattle.rule.proofs.Looks.{letter-look, tree-look, class-look}
@@ -91,12 +90,6 @@ pub still-settled : (book : List ℕ) (r : Reading) (top : Level) → held book 
     → settled book r top ≡ inStill book (r .state)
 unfolding settled
 still-settled book r top isNot = or-none (inStill book (r .state)) isNot
-
--- ---- a held level is not the top
-
-pub held-inside : (book : List ℕ) (r : Reading) (top : Level) → held book r top ≡ true → 0 < r .depth
-unfolding held
-held-inside book r top e = ltb-true 0 (r .depth) (and-true (0 <? r .depth) (inHold book (top .above) (r .state)) e .0)
 
 -- ---- the numbers that the code holds are those of the rule
 

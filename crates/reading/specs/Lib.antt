@@ -3,3 +3,4 @@ pub mod Store
 pub mod Feeding
 pub mod Checks
 pub mod PassingOver
+pub mod Whole

@@ -10,7 +10,6 @@ use meaning::Fed;
 use meaning::Feeding;
 use meaning::Reading;
 use rule::Rule;
-ghost use mathlib.Core.Path.{_≡_};
 ghost use Rattle.meaning.specs.RuleFile.{ruleOf};
 ghost use Rattle.meaning.specs.FullReading.{feedBy};
 ghost use Rattle.meaning.specs.Calls.{storeStep};

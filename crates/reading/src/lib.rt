@@ -1,5 +1,6 @@
 // The reading of events: what one event leads to, by value, and the calls over the lent level store.
 mod checking;
+mod document;
 mod ending;
 mod feeding;
 mod levels;
@@ -7,7 +8,11 @@ mod passing;
 mod settling;
 mod turns;
 
+use book::Made;
+use book::make_book;
 use checking::reading_check;
+use document::fresh_reading;
+use document::read_events;
 use ending::end_of;
 use feeding::feed_events;
 use levels::top_level;
@@ -20,14 +25,15 @@ use meaning::Refusal;
 use rule::Checked;
 use rule::Rule;
 ghost use mathlib.Core.Path.{_≡_};
-ghost use Rattle.meaning.specs.Calls.{endSays, feedCall, finishCall, freshCall};
+ghost use Rattle.meaning.specs.Calls.{endSays, feedCall, finishCall, freshCall, wholeDocument};
 ghost use Rattle.reading.specs.Store.{storeOf};
 ghost use Rattle.reading.specs.Feeding.{FedIs};
 ghost use Rattle.reading.specs.Checks.{begunSays};
+ghost use Rattle.reading.specs.Whole.{ReadIs};
 
 // What one event leads to: the open levels stay, a record is stored for one more level, the innermost level ends, or
 // the event is refused.
-pub enum Turn {
+enum Turn {
     Stays(Reading),
     Stores(Level, Reading),
     Ends(Reading),
@@ -35,13 +41,13 @@ pub enum Turn {
 }
 
 // What becomes of an event that is handed to a reading over a level store: the next reading, or a refusal.
-pub enum Step {
+enum Step {
     To(Reading),
     Refused(Refusal),
 }
 
 // Where passing over a run of events was left: the reading there, and the index of the next event.
-pub struct PassedOver {
+struct PassedOver {
     pub reading: Reading,
     pub next: usize,
 }
@@ -57,13 +63,7 @@ pub fn fresh(file: &[u8]) -> Begun
     ensures { λ r. ⌜ begunSays r ≡ freshCall (now (file .entry)) ⌝ }
 {
     match Rule::of_file(file) {
-        Checked::Fine(rule) => Begun::At(Reading {
-            state: rule.initial,
-            depth: 0,
-            skip: 0,
-            taken: 0,
-            looks: 0,
-        }),
+        Checked::Fine(rule) => Begun::At(fresh_reading(rule)),
         Checked::Refused(refusal) => Begun::Refused(refusal),
     }
 }
@@ -106,5 +106,24 @@ pub fn finish(file: &[u8], book: &[u64], reading: Reading, states: &[u8], places
     match reading_check(file, book, reading, states, places) {
         Checked::Fine(rule) => end_of(file, rule, reading, top_level(states, places, reading)),
         Checked::Refused(refusal) => End::Refused(refusal),
+    }
+}
+
+// A whole document: the rule check, the maker, feed and finish in turn, with the largest ceiling.
+pub fn read_document(
+    file: &[u8],
+    book: &mut [u64],
+    states: &mut [u8],
+    places: &mut [u32],
+    events: &[u16],
+) -> End
+    ensures { λ r. ⌜ ReadIs (wholeDocument (now (file .entry)) (now (book .entry)) (storeOf (now (states .entry)) (now (places .entry))) (now (events .entry))) r (now (book .exit)) (now (states .entry)) (now (places .entry)) (now (states .exit)) (now (places .exit)) ⌝ }
+{
+    match make_book(file, book) {
+        Made::Refused(refusal) => End::Refused(refusal),
+        Made::Still(_) => match Rule::of_file(file) {
+            Checked::Refused(refusal) => End::Refused(refusal),
+            Checked::Fine(rule) => read_events(file, rule, book, states, places, events),
+        },
     }
 }

@@ -1,9 +1,8 @@
 -- `reading::feed` meets its contract: what was checked is fed, and what the check refused changes nothing.
 -- Assumes nothing.
 use borrow.Author.Needs.{needs}
-use mathlib.Core.Path.{_≡_, refl, sym, _∙_, ap}
+use mathlib.Core.Path.{refl}
 use native.Mathlib.Omega.{arith}
-use denote.Ref.{now}
 use Rattle.meaning.specs.Calls.{feedingSays, refusalSays}
 use Rattle.meaning.proofs.ReadingCheck.{feed-checked, feed-unchecked}
 use Rattle.reading.proofs.Checks.{fine-feeds, fine-passes, refused-reads}

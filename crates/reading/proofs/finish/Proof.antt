@@ -1,7 +1,7 @@
 -- `reading::finish` meets its contract: what was checked ends as its state and its innermost record say.
 -- Assumes nothing.
 use borrow.Author.Needs.{needs}
-use mathlib.Core.Path.{_≡_, sym, _∙_, ap}
+use mathlib.Core.Path.{sym, _∙_}
 use denote.Ref.{now}
 use Rattle.meaning.specs.Calls.{endSays, refusalSays}
 use Rattle.meaning.proofs.ReadingCheck.{finish-checked, finish-unchecked}

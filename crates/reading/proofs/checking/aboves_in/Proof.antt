@@ -1,12 +1,10 @@
 -- `reading::checking::aboves_in` meets its contract: the loop keeps that every stored state passed is below n.
 -- Assumes nothing.
 use mathlib.Core.Path.{_≡_, sym}
-use mathlib.Core.Bool.{Bool, true, false}
-use mathlib.Core.List.{List}
+use mathlib.Core.Bool.{true}
 use Prim.Native.Nat.{ℕ, _-_, _≤_, _<_}
 use native.Mathlib.Omega.{arith}
 use borrow.Author.Tests.{lt-ltb, le-ltb}
-use borrow.Author.Count.{below-more}
 use denote.Ref.{now}
 use lib.ListN.{getD}
 use Rattle.meaning.specs.RuleFile.{isState}

@@ -1,11 +1,10 @@
 -- `reading::checking::not_reading` meets its contract: the conditions of number 13 in their order, the first that fails decides.
 -- Assumes nothing.
-use Rattle.reading.specs.Turns.{BookServes}
 use borrow.Author.Needs.{needs}
-use mathlib.Core.Path.{_≡_, sym, _∙_, ap}
+use mathlib.Core.Path.{_≡_, sym, _∙_}
 use mathlib.Core.Bool.{true, false, not, _&&_}
 use mathlib.Core.List.{List}
-use Prim.Native.Nat.{ℕ, _+_, _-_, _≤_, _<_}
+use Prim.Native.Nat.{ℕ, _-_, _<_}
 use native.Mathlib.Omega.{arith}
 use borrow.Author.Tests.{lt-ltb, le-ltb, ltb-true, not-true, not-false}
 use denote.Ref.{now}

@@ -1,7 +1,7 @@
 -- `reading::checking::reading_check` meets its contract: the rule check, the length of the book and number 13, in that order.
 -- Assumes nothing.
 use borrow.Author.Needs.{needs}
-use mathlib.Core.Path.{_≡_, sym, _∙_, ap}
+use mathlib.Core.Path.{sym, _∙_}
 use native.Mathlib.Omega.{arith}
 use denote.Ref.{now}
 use Rattle.meaning.specs.Calls.{refusalSays}

@@ -1,12 +1,8 @@
 -- `reading::ending::end_of` meets its contract: what is open is refused, and otherwise the byte of the state's class decides.
 -- Assumes nothing.
 use borrow.Author.Needs.{needs}
-use mathlib.Core.Path.{_≡_, sym, _∙_, ap}
-use Prim.Native.Nat.{_+_}
-use native.Mathlib.Omega.{arith}
+use mathlib.Core.Path.{sym, _∙_}
 use borrow.Author.Tests.{lt-ltb, le-ltb}
-use denote.Ref.{now}
-use Rattle.meaning.specs.RuleFile.{ruleOf, classOf}
 use Rattle.meaning.specs.Calls.{endSays, refusalSays, endOf}
 use Rattle.meaning.proofs.Answered.{refuse-stops, refuse-passes}
 use Rattle.reading.proofs.Turned.{class-is, class-in}

@@ -2,11 +2,9 @@
 -- where there is room for it, and each turn leaves what the definition's step leaves.
 -- Assumes nothing.
 use borrow.Author.Needs.{needs}
-use mathlib.Core.Path.{_≡_, sym, _∙_}
+use mathlib.Core.Path.{_≡_, _∙_}
 use mathlib.Core.List.{List}
-use Prim.Native.Nat.{ℕ}
 use denote.Ref.{now}
-use lib.ListN.{length}
 use Rattle.meaning.specs.Answers.{given, _giving_}
 use Rattle.meaning.specs.RuleFile.{ruleOf}
 use Rattle.meaning.specs.Calls.{refusalSays, storedAfter, storeStep}

@@ -1,7 +1,7 @@
 -- `reading::levels::top_level` meets its contract: an empty store has no record, and any other one at the depth less one.
 -- Assumes nothing.
 use borrow.Author.Needs.{needs}
-use mathlib.Core.Path.{sym, _∙_}
+use mathlib.Core.Path.{sym}
 use native.Mathlib.Omega.{arith}
 use Prim.Native.Nat.{_-_}
 use denote.Ref.{now}

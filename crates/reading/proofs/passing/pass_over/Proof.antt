@@ -2,10 +2,9 @@
 -- end the level.
 -- Assumes nothing.
 use borrow.Author.Needs.{needs}
-use mathlib.Core.Path.{_≡_, sym, _∙_}
-use Prim.Native.Nat.{ℕ, _+_, _-_, _≤_, _<_}
+use Prim.Native.Nat.{_-_, _≤_}
 use native.Mathlib.Omega.{arith}
-use lib.ListN.{length, getD}
+use lib.ListN.{getD}
 use Rattle.reading.specs.PassingOver.{openings, closings}
 use Rattle.reading.proofs.PassesOn.{Passes, passes-start, passes-on, passes-left, opens-few}
 use Rattle.reading.proofs.passing.pass_over.Statement.{statement}

@@ -1,7 +1,6 @@
 -- `reading::turns::full_turn` meets its contract: the number of the event says which of the three it is.
 -- Assumes nothing.
 use borrow.Author.Needs.{needs}
-use mathlib.Core.Path.{sym, _∙_}
 use native.Mathlib.Omega.{arith}
 use Rattle.reading.proofs.Turned.{opens-is, closes-is, letter-is}
 use Rattle.reading.proofs.turns.full_turn.Statement.{statement}

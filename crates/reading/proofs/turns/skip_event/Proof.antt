@@ -2,7 +2,7 @@
 -- test chooses.
 -- Assumes nothing.
 use borrow.Author.Needs.{needs}
-use mathlib.Core.Path.{_≡_, sym, _∙_, ap}
+use mathlib.Core.Path.{sym, _∙_}
 use Prim.Native.Nat.{_+_}
 use native.Mathlib.Omega.{arith}
 use borrow.Author.Tests.{le-leb, lt-leb}
@@ -11,7 +11,8 @@ use Rattle.meaning.specs.RuleFile.{ruleOf}
 use Rattle.meaning.specs.FullReading.{knownEvent}
 use Rattle.meaning.specs.Skipping.{skipTurn, skipEvent}
 use Rattle.meaning.proofs.Answered.{refuse-stops, refuse-passes, if-true, if-false}
-use Rattle.reading.proofs.Turned.{known-turn, letters-are, few-letters, book-serves, held-inside}
+use Rattle.meaning.proofs.StillReading.{held-deep}
+use Rattle.reading.proofs.Turned.{known-turn, letters-are, few-letters, book-serves}
 use Rattle.reading.proofs.turns.skip_event.Statement.{statement}
 use Rattle.reading.proofs.turns.skip_event.Tie as tie
 
@@ -56,7 +57,7 @@ settled-turn-requires c κs =
         record { counted = s .pre .counted; more = omega arith },
         (
           s .pre .states,
-          λ is. held-inside (now (s .args .book)) (s .args .reading) (s .args .top) (sym (c .before .before .is-held .ensures) ∙ is),
+          λ is. held-deep (now (s .args .book)) (s .args .reading) (s .args .top) (sym (c .before .before .is-held .ensures) ∙ is),
         ),
       ),
     )
