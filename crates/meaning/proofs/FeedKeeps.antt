@@ -13,14 +13,6 @@ abbrev pub viewed : {A B : Type 0} → (A → B) → Went A → Went B
 viewed view w = record { last = view (w .last); ended = w .ended }
 
 module _ {A : Type 0} (step : A → ℕ → Answer A) where
-<<<<<<< HEAD
-=======
-  -- an event that is taken, and on
-  pub feed-taken : {a b : A} {e : ℕ} (es : List ℕ) → step a e ≡ given b → feedBy step a (e ∷ es) ≡ feedBy step b es
-  unfolding feedBy goOn
-  feed-taken es t = rw (t, goOn)
-
->>>>>>> reading
   module _ (P Q : A → Type 0) (keeps : (a b : A) (e : ℕ) → P a → Q b → step a e ≡ given b → P b) where
     keeps-on : (rest : A → Went A) (a : A) (x : Answer A) → P a → ((b : A) → x ≡ given b → P (rest b .last))
         → P (goOn a x rest .last)

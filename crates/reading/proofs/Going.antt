@@ -20,7 +20,7 @@ use Rattle.meaning.specs.declared.Level.{Level}
 use Rattle.meaning.specs.declared.Reading.{Reading}
 use Rattle.meaning.specs.declared.Refusal.{Refusal}
 use Rattle.meaning.proofs.Accepted.{accepted-is-rule}
-use Rattle.meaning.proofs.FeedKeeps.{feed-taken}
+use Rattle.meaning.proofs.FeedLaws.{feed-taken}
 use Rattle.meaning.proofs.StillReading.{IsReading, reading-is, still-reading}
 use Rattle.meaning.proofs.StoreView.{step-turned, step-within}
 use Rattle.meaning.proofs.Turns.{Turned, passes, endsHeld, takesLetter, storesOpen, endsLooked}

@@ -17,7 +17,7 @@ use Rattle.meaning.specs.Skipping.{held, settled, passed, settledTurn, skipTurn
 use Rattle.meaning.specs.Calls.{topOf, storedAfter, storeStep}
 use Rattle.meaning.specs.declared.Level.{Level}
 use Rattle.meaning.specs.declared.Reading.{Reading}
-use Rattle.meaning.proofs.FeedKeeps.{feed-taken}
+use Rattle.meaning.proofs.FeedLaws.{feed-taken}
 use Rattle.meaning.proofs.Answered.{if-true, if-false, refuse-passes, giving-passes}
 use Rattle.reading.specs.Feeding.{over}
 use Rattle.reading.specs.PassingOver.{openings, closings, passedOn, PassesOver}

@@ -10,8 +10,11 @@ use meaning::Refusal;
 
 // The bytes of a header, the bytes that are read at once, the events that they hold, and the words of the longest book.
 const HEADER: usize = 6;
+
 const BLOCK: usize = 65536;
+
 const EVENTS: usize = 32768;
+
 const WORDS: usize = 65;
 
 // How reading the body ended: at the end of the input, at bytes after the record, or by a read that failed.

@@ -4,15 +4,10 @@ mod lines;
 mod passes;
 mod source;
 
-
 use input::Front;
-
-
-
 
 // The longest rule file and the header of the record after it.
 const FRONT: usize = 20579;
-
 
 fn main() {
     let mut front = [0u8; FRONT];

@@ -50,10 +50,24 @@ pub fn begin(file: &[u8]) -> Pass {
     }
 }
 
-fn take_events(file: &[u8], book: &[u64], reading: Reading, levels: Levels, events: &[u16]) -> Pass {
+fn take_events(
+    file: &[u8],
+    book: &[u64],
+    reading: Reading,
+    levels: Levels,
+    events: &[u16],
+) -> Pass {
     let mut states = levels.states;
     let mut places = levels.places;
-    let fed = reading::feed(file, book, CEILING, reading, &mut states, &mut places, events);
+    let fed = reading::feed(
+        file,
+        book,
+        CEILING,
+        reading,
+        &mut states,
+        &mut places,
+        events,
+    );
     let after = fed.reading;
     let ended = fed.ended;
     Pass {
