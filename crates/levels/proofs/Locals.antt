@@ -46,18 +46,18 @@ module _ {M : Type 1} (𝓤 : URA M) (H : Heap 𝓤) where
   dying [] = ftrue
   dying (e ∷ E) = fsep (fdies (e .0) (e .1)) (dying E)
 
-module _ {M : Type 1} (𝓤 : URA M) (H : Heap 𝓤) (A : Atoms 𝓤) (W : Given 𝓤 H A) where
-  -- a judgement, as the entailment that it says
-  meaning-of : (Γ : List (Item 𝓤)) (G : Goal 𝓤 H) → Sq W Γ G → ent 𝓤 (⋆ 𝓤 H A Γ) (aim 𝓤 H G)
-  meaning-of Γ G s = s .prf
+-- a judgement, as the entailment that it says
+pub meaning-of : {M : Type 1} {𝓤 : URA M} {H : Heap 𝓤} {A : Atoms 𝓤} (W : Given 𝓤 H A) (Γ : List (Item 𝓤)) (G : Goal 𝓤 H) → Sq W Γ G → ent 𝓤 (⋆ 𝓤 H A Γ) (aim 𝓤 H G)
+meaning-of W Γ G s = s .prf
 
+module _ {M : Type 1} (𝓤 : URA M) (H : Heap 𝓤) (A : Atoms 𝓤) (W : Given 𝓤 H A) where
   -- each local is allocated, beside P
   alloc-all : (ls : List Local) (Kt : Env 𝓤 H → Goal 𝓤 H) (P : SProp 𝓤)
       → ((bs : Blocks ls) → ent 𝓤 (sep 𝓤 (⋆ 𝓤 H A (lying 𝓤 H (placed 𝓤 H ls bs) [])) (sep 𝓤 (sem 𝓤 H A (dying 𝓤 H (placed 𝓤 H ls bs))) P)) (aim 𝓤 H (Kt (placed 𝓤 H ls bs))))
       → ent 𝓤 P (aim 𝓤 H (allocs ls Kt))
   alloc-all [] Kt P k = via 𝓤 (sep 𝓤 (emp 𝓤) P) (emp∗ 𝓤 P) (via 𝓤 (sep 𝓤 (emp 𝓤) (sep 𝓤 (emp 𝓤) P)) (monoR 𝓤 (emp 𝓤) (emp∗ 𝓤 P)) (k tt))
   alloc-all (local τ h ∷ ls) Kt P k =
-      meaning-of (raw P ∷ []) (allocs (local τ h ∷ ls) Kt) (alloc1 ! (λ b. by ! (alloc-all ls (λ E. Kt ((τ, b) ∷ E)) _ (λ bs.
+      meaning-of W (raw P ∷ []) (allocs (local τ h ∷ ls) Kt) (alloc1 ! (λ b. by ! (alloc-all ls (λ E. Kt ((τ, b) ∷ E)) _ (λ bs.
       qed W (raw (⋆ 𝓤 H A (lying 𝓤 H (placed 𝓤 H ls bs) [])) ∷ ‵ (dying 𝓤 H (placed 𝓤 H ls bs)) ∷ ‵ (froom τ b 0) ∷ ‵ (fdies τ b) ∷ raw P ∷ []) ∵
       suffices ! _ (k (b, bs)) $ move ! (3 ∷ 1 ∷ []) $ fjoin ! $ move ! (2 ∷ 1 ∷ 0 ∷ 3 ∷ []) $
       use2 W (raw (⋆ 𝓤 H A (‵ (froom τ b 0) ∷ lying 𝓤 H (placed 𝓤 H ls bs) []))) (push 𝓤 H A (‵ (froom τ b 0)) (lying 𝓤 H (placed 𝓤 H ls bs) [])) $ done !))))
