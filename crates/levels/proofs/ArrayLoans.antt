@@ -100,27 +100,28 @@ module _ (R : RattleType) (val : R .Denot → Val) where
           qed W (‵ (flft (z .0 ∷ []) fullShare) ∷ ‵ ftrue ∷ ‵ (flent (z .0 ∷ []) (arr-parts (shares R) (length ys) .part fullShare ys b 0)) ∷ []) ∵ updating ! $ lft-end ! tt $ move ! (0 ∷ 2 ∷ []) $ lent-back ! tt $
           rewrite ! 0 (λ (m : ℕ). ‵ (arr-parts (shares R) m .part fullShare ys b 0)) counted refl $ use1 W (given (Fine n ys) (‵ (Whole n b ys))) (together ys) $ learn ! (λ _. at-once ! $ keep ! (0 ∷ []) $ done !)
 
-      abbrev pub lent-array : MutLoan 𝓤 H A R b 0 n ys
-      lent-array = record {
-        Made = ℕ × GName;
-        lifetime = λ z. z .0 ∷ [];
-        share = λ z. fullShare;
-        name = λ z. z .1;
-        before = ‵ (Whole n b ys);
-        after = λ zs. given (Fine n zs) (‵ (Whole n b zs));
-        keeps = λ z. flent (z .0 ∷ []) (Held R (length ys) b 0 (z .1));
-        lends = lends-mut;
-        returns = mut-back;
-      }
+module _ (R : RattleType) (val : R .Denot → Val) (tl : Tells R (Is R) (λ x. val x ∷ [])) (single : Single (R .mir)) {M : Type 1} {𝓤 : URA M} {H : Heap 𝓤} {A : Atoms 𝓤} (W : Given 𝓤 H A) (mk : Makes 𝓤 H A R (Is R)) {n b : ℕ} (room : Room R n) {ys : List (R .Denot)} (fine : Fine R val n ys) where
+  abbrev pub lent-array : MutLoan 𝓤 H A R b 0 n ys
+  lent-array = record {
+    Made = ℕ × GName;
+    lifetime = λ z. z .0 ∷ [];
+    share = λ z. fullShare;
+    name = λ z. z .1;
+    before = ‵ (Whole R val n b ys);
+    after = λ zs. given (Fine R val n zs) (‵ (Whole R val n b zs));
+    keeps = λ z. flent (z .0 ∷ []) (Held R (length ys) b 0 (z .1));
+    lends = lends-mut R val tl single 𝓤 H A W mk n b room ys fine;
+    returns = mut-back R val tl single 𝓤 H A W mk n b room ys fine;
+  }
 
-      abbrev pub shown-array : ShrLoan 𝓤 H A R b 0 n ys
-      shown-array = record {
-        Made = ℕ × GName;
-        lifetime = λ z. z .0 ∷ [];
-        share = λ z. fullShare;
-        name = λ z. z .1;
-        before = ‵ (Whole n b ys);
-        keeps = λ z. flent (z .0 ∷ []) (arr-parts (shares R) (length ys) .part fullShare ys b 0);
-        lends = lends-shared;
-        returns = shared-back;
-      }
+  abbrev pub shown-array : ShrLoan 𝓤 H A R b 0 n ys
+  shown-array = record {
+    Made = ℕ × GName;
+    lifetime = λ z. z .0 ∷ [];
+    share = λ z. fullShare;
+    name = λ z. z .1;
+    before = ‵ (Whole R val n b ys);
+    keeps = λ z. flent (z .0 ∷ []) (arr-parts (shares R) (length ys) .part fullShare ys b 0);
+    lends = lends-shared R val tl single 𝓤 H A W mk n b room ys fine;
+    returns = shared-back R val tl single 𝓤 H A W mk n b room ys fine;
+  }

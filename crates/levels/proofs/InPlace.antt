@@ -13,9 +13,9 @@ use mir.Syntax.{Name, Place, Opd as Operand, Body, seq, call}
 use mir.Val.{Val}
 use base.Logic.{SProp, ent, sep, wand, guard, emp, via, comm∗, assoc∗, assoc′, monoL, monoR, snd∗, emp∗, wandI, apply∗}
 use base.Fml.{ftrue}
-use prog.Wp.{Heap, Env, Calls, Loops, evalOpds}
+use prog.Wp.{Heap, Env, Tables, evalOpds}
 use ghost.Atoms.{Atoms}
-use sound.WpLaws.{FmC, evalOpds-fm, ⇛-fm}
+use sound.WpLaws.{fmOf, evalOpds-fm, ⇛-fm}
 use types.Kit.{Given, Item, ‵, raw, given, later, mean, ⋆, push, pop, nth, put, del, pull, fill, Post, Goal, runs, lands, aim, Seq, _$_, !, by, learn, await}
 use types.Run.{Opds}
 use Rattle.levels.proofs.Locals.{meaning-of}
@@ -97,14 +97,14 @@ module _ {M : Type 1} {𝓤 : URA M} {H : Heap 𝓤} {A : Atoms 𝓤} {K : Type 
       (monoL 𝓤 P (os .go (λ us. wand 𝓤 P (Kt us)) (wandI 𝓤 (⋆ 𝓤 H A Γ) P (Kt vs) (via 𝓤 (sep 𝓤 P (⋆ 𝓤 H A Γ)) (comm∗ 𝓤 (⋆ 𝓤 H A Γ) P) h))))
       (evalOpds-fm 𝓤 H (W .laws) E xs (λ us. wand 𝓤 P (Kt us)) Kt P (λ us. via 𝓤 (sep 𝓤 P (wand 𝓤 P (Kt us))) (comm∗ 𝓤 (wand 𝓤 P (Kt us)) P) (apply∗ 𝓤 P (Kt us)))))
 
-module _ {M : Type 1} {𝓤 : URA M} {H : Heap 𝓤} {A : Atoms 𝓤} {K : Type 0} {W : Given 𝓤 H A} {Γ : List (Item 𝓤)} {E : Env 𝓤 H} {C : Calls 𝓤 H} {Λ : Loops 𝓤 H} {q : Post 𝓤 H} {f : Name} {xs : List Operand} {d : Place} {rest : Body} where
-  pub calls-by : K → FmC 𝓤 H (W .laws) C → (ns : List ℕ) {Δ : List (Item 𝓤)} → picked 𝓤 H A ns Γ ≡ Δ → {vs : List Val} {v : Val} {φ : Type 0} {Δ′ : List (Item 𝓤)} → Gives 𝓤 H A (C f) Δ vs v φ Δ′
-      → Opds K W (blanked 𝓤 H A ns Γ) E xs vs → (φ → Seq K W (refilled 𝓤 H A ns Δ′ Γ) (lands C Λ E d v rest q)) → Seq K W Γ (runs C Λ E (seq (call f xs d) rest) q)
-  calls-by t fm ns {Δ} at-ns {vs} {v} {φ} {Δ′} g os k = record {
+module _ {M : Type 1} {𝓤 : URA M} {H : Heap 𝓤} {A : Atoms 𝓤} {K : Type 0} {W : Given 𝓤 H A} {Γ : List (Item 𝓤)} {E : Env 𝓤 H} {q : Post 𝓤 H} {f : Name} {xs : List Operand} {d : Place} {rest : Body} where
+  pub calls-by : K → (𝓣 : Tables 𝓤 H) (ns : List ℕ) {Δ : List (Item 𝓤)} → picked 𝓤 H A ns Γ ≡ Δ → {vs : List Val} {v : Val} {φ : Type 0} {Δ′ : List (Item 𝓤)} → Gives 𝓤 H A (𝓣 .C f) Δ vs v φ Δ′
+      → Opds K W (blanked 𝓤 H A ns Γ) E xs vs → (φ → Seq K W (refilled 𝓤 H A ns Δ′ Γ) (lands (𝓣 .C) (𝓣 .Λ) E d v rest q)) → Seq K W Γ (runs (𝓣 .C) (𝓣 .Λ) E (seq (call f xs d) rest) q)
+  calls-by t 𝓣 ns {Δ} at-ns {vs} {v} {φ} {Δ′} g os k = record {
     prf =
         via 𝓤 (sep 𝓤 (⋆ 𝓤 H A Δ) B) (subst (λ (Δ₁ : List (Item 𝓤)). ent 𝓤 (⋆ 𝓤 H A Γ) (sep 𝓤 (⋆ 𝓤 H A Δ₁) B)) at-ns (takes-out 𝓤 H A ns Γ))
-        (via 𝓤 (sep 𝓤 (H .⇛ (C f vs Q)) B) (monoL 𝓤 B (g .gives))
-        (⇛-fm 𝓤 H (W .laws) (C f vs Q) (evalOpds 𝓤 H E xs (λ us. C f us after)) B (read-beside os (C f vs Q) (λ us. C f us after) (fm f vs Q after B returned))));
+        (via 𝓤 (sep 𝓤 (H .⇛ (𝓣 .C f vs Q)) B) (monoL 𝓤 B (g .gives))
+        (⇛-fm 𝓤 H (W .laws) (𝓣 .C f vs Q) (evalOpds 𝓤 H E xs (λ us. 𝓣 .C f us after)) B (read-beside os (𝓣 .C f vs Q) (λ us. 𝓣 .C f us after) (fmOf 𝓤 H (W .laws) 𝓣 f vs Q after B returned))));
   }
     where
       B : SProp 𝓤
@@ -114,8 +114,8 @@ module _ {M : Type 1} {𝓤 : URA M} {H : Heap 𝓤} {A : Atoms 𝓤} {K : Type 
       Q r = H .⇛ (guard 𝓤 ((r ≡ v) × φ) (⋆ 𝓤 H A Δ′))
 
       after : Val → SProp 𝓤
-      after r = aim 𝓤 H (lands C Λ E d r rest q)
+      after r = aim 𝓤 H (lands (𝓣 .C) (𝓣 .Λ) E d r rest q)
 
       returned : (r : Val) → ent 𝓤 (sep 𝓤 (Q r) B) (after r)
-      returned r = meaning-of W (later (given ((r ≡ v) × φ) (raw (⋆ 𝓤 H A Δ′))) ∷ raw B ∷ []) (lands C Λ E d r rest q) (await ! tt $ learn ! (λ e.
+      returned r = meaning-of W (later (given ((r ≡ v) × φ) (raw (⋆ 𝓤 H A Δ′))) ∷ raw B ∷ []) (lands (𝓣 .C) (𝓣 .Λ) E d r rest q) (await ! tt $ learn ! (λ e.
           by ! (subst (λ (u : Val). ent 𝓤 (sep 𝓤 (⋆ 𝓤 H A Δ′) B) (after u)) (sym (e .0)) (via 𝓤 (⋆ 𝓤 H A (refilled 𝓤 H A ns Δ′ Γ)) (puts-in 𝓤 H A ns Δ′ Γ) (k (e .1) .prf)))))

@@ -7,3 +7,4 @@ pub mod Loans
 pub mod Store
 pub mod Loop
 pub mod ArrayLoans
+pub mod Lines

@@ -162,39 +162,41 @@ module _ (R : RattleType) where
     pub passed-back : ent 𝓤 (sep 𝓤 (A .lft κ q) (sep 𝓤 (sem 𝓤 H A ftrue) (sem 𝓤 H A Own))) (H .⇛ (sem 𝓤 H A (Shown κ q γ b o n ys)))
     passed-back = qed W (‵ (flft κ q) ∷ ‵ ftrue ∷ ‵ Own ∷ []) ∵ updating ! $ at-once ! $ move ! (2 ∷ 0 ∷ []) $ fjoin ! $ keep ! (0 ∷ []) $ done !
 
-    abbrev pub relent : MutLoan 𝓤 H A R b o n ys
-    relent = record {
-      Made = ℕ × GName;
-      lifetime = λ z. z .0 ∷ [];
-      share = λ z. fullShare;
-      name = λ z. z .1;
-      before = ‵ (Kept κ q γ b o n ys);
-      after = λ zs. ‵ (Kept κ q γ b o n zs);
-      keeps = KeptMut;
-      lends = lends-mut;
-      returns = mut-back;
-    }
+-- ---- the three loans
+module _ {R : RattleType} {M : Type 1} {𝓤 : URA M} {H : Heap 𝓤} {A : Atoms 𝓤} (W : Given 𝓤 H A) (κ : Lft) (q : Share) (γ : GName) {b o n : ℕ} {ys : List (R .Denot)} where
+  abbrev pub relent : MutLoan 𝓤 H A R b o n ys
+  relent = record {
+    Made = ℕ × GName;
+    lifetime = λ z. z .0 ∷ [];
+    share = λ z. fullShare;
+    name = λ z. z .1;
+    before = ‵ (Kept R κ q γ b o n ys);
+    after = λ zs. ‵ (Kept R κ q γ b o n zs);
+    keeps = KeptMut R 𝓤 H A W κ q γ b o n ys;
+    lends = lends-mut R 𝓤 H A W κ q γ b o n ys;
+    returns = mut-back R 𝓤 H A W κ q γ b o n ys;
+  }
 
-    abbrev pub reshown : ShrLoan 𝓤 H A R b o n ys
-    reshown = record {
-      Made = ℕ × GName;
-      lifetime = λ z. z .0 ∷ [];
-      share = λ z. fullShare;
-      name = λ z. z .1;
-      before = ‵ (Kept κ q γ b o n ys);
-      keeps = KeptShr;
-      lends = lends-shared;
-      returns = shared-back;
-    }
+  abbrev pub reshown : ShrLoan 𝓤 H A R b o n ys
+  reshown = record {
+    Made = ℕ × GName;
+    lifetime = λ z. z .0 ∷ [];
+    share = λ z. fullShare;
+    name = λ z. z .1;
+    before = ‵ (Kept R κ q γ b o n ys);
+    keeps = KeptShr R 𝓤 H A W κ q γ b o n ys;
+    lends = lends-shared R 𝓤 H A W κ q γ b o n ys;
+    returns = shared-back R 𝓤 H A W κ q γ b o n ys;
+  }
 
-    abbrev pub shown : ShrLoan 𝓤 H A R b o n ys
-    shown = record {
-      Made = Unit {0};
-      lifetime = λ _. κ;
-      share = λ _. q;
-      name = λ _. γ;
-      before = ‵ (Shown κ q γ b o n ys);
-      keeps = λ _. Own;
-      lends = passes-on;
-      returns = λ _. passed-back;
-    }
+  abbrev pub shown : ShrLoan 𝓤 H A R b o n ys
+  shown = record {
+    Made = Unit {0};
+    lifetime = λ _. κ;
+    share = λ _. q;
+    name = λ _. γ;
+    before = ‵ (Shown R κ q γ b o n ys);
+    keeps = λ _. Own R 𝓤 H A W κ q γ b o n ys;
+    lends = passes-on R 𝓤 H A W κ q γ b o n ys;
+    returns = λ _. passed-back R 𝓤 H A W κ q γ b o n ys;
+  }

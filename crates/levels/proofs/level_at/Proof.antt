@@ -35,8 +35,6 @@ use denote.Signature.{plain, shrSliceOf}
 use denote.Steps.{nothing, owned}
 use denote.Struct.Laws as LL
 use denote.Triple.Entry.{onEntry}
-use denote.Triple.Spec.{tripleOf}
-use denote.Triple.Table.{entered}
 use denote.Triple.Walked.{says, Stays, stay-dropped, goes-dropped, walkOf, ends-at}
 use denote.Exit.{yes}
 use denote.Ref.{RefT}
@@ -45,7 +43,7 @@ use Rattle.meaning.specs.FullReading.{blank}
 use Rattle.meaning.proofs.Level as L
 use Rattle.meaning.proofs.Level.Laws as L′
 use Rattle.levels.proofs.Locals.{Blocks, placed, lying, dying, allocated, freed}
-use Rattle.levels.proofs.Meets.{walk-shows}
+use Rattle.levels.proofs.Meets.{proved}
 use Rattle.levels.proofs.Element.{record-type, machine, machines, Fits, tells, makes, copies, typed}
 use Rattle.levels.proofs.level_at.Key.{name as #levels·level-at}
 use Rattle.levels.proofs.level_at as level-at
@@ -133,9 +131,8 @@ module _ {M : Type 1} (𝓤 : URA M) (H : Heap 𝓤) (A : Atoms 𝓤) (W : Given
 pub level-at-spec : {M : Type 1} → stated.statement M
 unfolding code.routine tablesOf
 level-at-spec 𝓤 H 𝓜 𝓖 𝓡 =
-    entered 𝓤 H (tripleOf 𝓤 H (𝓖 .A) level-at.signature (level-at.spec 𝓤 H (𝓖 .A) (𝓜 .mem) (𝓡 .run)))
-    (tables 𝓤 H 𝓜 𝓡 code.env .C) (tables 𝓤 H 𝓜 𝓡 code.env .Λ) #levels·level-at code.function (code.unfolded 𝓤 H 𝓜 𝓡)
-    (walk-shows 𝓤 H (𝓖 .A) (givenOf 𝓤 H 𝓜 𝓖) level-at.ended (level-at.clauses 𝓤 H (𝓖 .A) (𝓜 .mem) (𝓡 .run)) stayed code.function (tablesOf 𝓤 H 𝓜 (tables 𝓤 H 𝓜 𝓡 code.env))
-    (goes-dropped 𝓤 H (𝓖 .A) (givenOf 𝓤 H 𝓜 𝓖) 1 (shrSliceOf (0 ∷ []) tt (plain (λ _. record-type))) yes (λ κs x f. refl), (goes-dropped 𝓤 H (𝓖 .A) (givenOf 𝓤 H 𝓜 𝓖) 1 (plain (λ _. usize)) yes (λ κs x f. refl), tt))
+    let W = givenOf 𝓤 H 𝓜 𝓖 in
+    proved 𝓤 H 𝓜 𝓖 𝓡 level-at.ended (level-at.clauses 𝓤 H (𝓖 .A) (𝓜 .mem) (𝓡 .run)) stayed code.function code.env #levels·level-at (code.unfolded 𝓤 H 𝓜 𝓡)
+    (goes-dropped 𝓤 H (𝓖 .A) W 1 (shrSliceOf (0 ∷ []) tt (plain (λ _. record-type))) yes (λ κs x f. refl), (goes-dropped 𝓤 H (𝓖 .A) W 1 (plain (λ _. usize)) yes (λ κs x f. refl), tt))
     (λ κs. (slice-vals, (uint-vals w64, tt))) (λ κs. (shr-slice-tells (named 0) (κs .0) record-type, (uint-tells w64, tt)))
-    (λ κs qs bounds a g are. via 𝓤 _ (fst∗ 𝓤 _ (emp 𝓤)) (walk 𝓤 H (𝓖 .A) (givenOf 𝓤 H 𝓜 𝓖) (𝓜 .mem) (𝓡 .run) (tablesOf 𝓤 H 𝓜 (tables 𝓤 H 𝓜 𝓡 code.env)) (κs .0) (qs .0) (a .0 .ptr .0) (a .0 .ptr .1) (a .0 .name) (a .0 .now) (a .1 .0) (are .0) (are .1 .0 .1))))
+    (λ κs qs bounds a g are. via 𝓤 _ (fst∗ 𝓤 _ (emp 𝓤)) (walk 𝓤 H (𝓖 .A) W (𝓜 .mem) (𝓡 .run) (tablesOf 𝓤 H 𝓜 (tables 𝓤 H 𝓜 𝓡 code.env)) (κs .0) (qs .0) (a .0 .ptr .0) (a .0 .ptr .1) (a .0 .name) (a .0 .now) (a .1 .0) (are .0) (are .1 .0 .1)))

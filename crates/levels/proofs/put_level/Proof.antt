@@ -35,14 +35,12 @@ use denote.Index.{place, place-is, elem-out, elem-put, opens-slice, closes-slice
 use denote.Signature.{plain}
 use denote.Steps.{nothing, owned}
 use denote.Triple.Entry.{Vals, onEntry}
-use denote.Triple.Spec.{tripleOf}
-use denote.Triple.Table.{entered}
 use denote.Triple.Walked.{says, Stays, stay-slice, stay-dropped, goes-slice, goes-dropped, walkOf, ends-at}
 use denote.Exit.{yes}
 use denote.Ref.{RefT}
 use Rattle.meaning.specs.declared.Level.{Level}
 use Rattle.levels.proofs.Locals.{Blocks, placed, lying, dying, allocated, freed}
-use Rattle.levels.proofs.Meets.{walk-shows}
+use Rattle.levels.proofs.Meets.{proved}
 use Rattle.levels.proofs.Element.{record-type, machine, machines, Fits, tells, makes, typed}
 use Rattle.levels.proofs.put_level.Key.{name as #levels·put-level}
 use Rattle.levels.proofs.put_level as put-level
@@ -131,9 +129,7 @@ pub put-level-spec : {M : Type 1} → stated.statement M
 unfolding code.routine tablesOf
 put-level-spec 𝓤 H 𝓜 𝓖 𝓡 =
     let W = givenOf 𝓤 H 𝓜 𝓖 in
-    entered 𝓤 H (tripleOf 𝓤 H (𝓖 .A) put-level.signature (put-level.spec 𝓤 H (𝓖 .A) (𝓜 .mem) (𝓡 .run)))
-    (tables 𝓤 H 𝓜 𝓡 code.env .C) (tables 𝓤 H 𝓜 𝓡 code.env .Λ) #levels·put-level code.function (code.unfolded 𝓤 H 𝓜 𝓡)
-    (walk-shows 𝓤 H (𝓖 .A) W put-level.ended (put-level.clauses 𝓤 H (𝓖 .A) (𝓜 .mem) (𝓡 .run)) stayed code.function (tablesOf 𝓤 H 𝓜 (tables 𝓤 H 𝓜 𝓡 code.env))
+    proved 𝓤 H 𝓜 𝓖 𝓡 put-level.ended (put-level.clauses 𝓤 H (𝓖 .A) (𝓜 .mem) (𝓡 .run)) stayed code.function code.env #levels·put-level (code.unfolded 𝓤 H 𝓜 𝓡)
     (goes-slice 𝓤 H (𝓖 .A) W 1 0 tt (plain (λ _. record-type)), (goes-dropped 𝓤 H (𝓖 .A) W 1 (plain (λ _. usize)) yes (λ κs x f. refl), (goes-dropped 𝓤 H (𝓖 .A) W 1 (plain (λ _. record-type)) yes (λ κs x f. refl), tt)))
     (λ κs. (slice-vals, (uint-vals w64, (machines, tt)))) (λ κs. (mut-slice-tells (named 0) (κs .0) record-type, (uint-tells w64, (tells, tt))))
-    (λ κs qs bounds a g are. via 𝓤 _ (fst∗ 𝓤 _ (emp 𝓤)) (walk 𝓤 H (𝓖 .A) W (𝓜 .mem) (𝓡 .run) (tablesOf 𝓤 H 𝓜 (tables 𝓤 H 𝓜 𝓡 code.env)) (κs .0) (qs .0) (a .0 .ptr .0) (a .0 .ptr .1) (a .0 .name) (a .0 .now) (a .1 .0) (a .1 .1 .0) (are .0) (are .1 .0 .1) (are .1 .1 .0))))
+    (λ κs qs bounds a g are. via 𝓤 _ (fst∗ 𝓤 _ (emp 𝓤)) (walk 𝓤 H (𝓖 .A) W (𝓜 .mem) (𝓡 .run) (tablesOf 𝓤 H 𝓜 (tables 𝓤 H 𝓜 𝓡 code.env)) (κs .0) (qs .0) (a .0 .ptr .0) (a .0 .ptr .1) (a .0 .name) (a .0 .now) (a .1 .0) (a .1 .1 .0) (are .0) (are .1 .0 .1) (are .1 .1 .0)))

@@ -24,15 +24,13 @@ use denote.Slice.{sliceVal, ShrSlice, slice-vals, shr-slice-tells, shr-slice-law
 use denote.Signature.{plain, shrSliceOf}
 use denote.Steps.{nothing}
 use denote.Triple.Entry.{onEntry}
-use denote.Triple.Spec.{tripleOf}
-use denote.Triple.Table.{entered}
 use denote.Triple.Walked.{says, Stays, stay-dropped, goes-dropped, walkOf, ends-at}
 use denote.Exit.{yes}
 use denote.Ref.{RefT}
 use Rattle.meaning.specs.declared.Level.{Level}
 use Rattle.meaning.proofs.Level as L
 use Rattle.levels.proofs.Locals.{placed, allocated, freed}
-use Rattle.levels.proofs.Meets.{walk-shows}
+use Rattle.levels.proofs.Meets.{proved}
 use Rattle.levels.proofs.room.Key.{name as #levels·room}
 use Rattle.levels.proofs.room as room
 use Rattle.levels.proofs.room.Statement as stated
@@ -68,9 +66,8 @@ module _ {M : Type 1} (𝓤 : URA M) (H : Heap 𝓤) (A : Atoms 𝓤) (W : Given
 pub room-spec : {M : Type 1} → stated.statement M
 unfolding code.routine tablesOf
 room-spec 𝓤 H 𝓜 𝓖 𝓡 =
-    entered 𝓤 H (tripleOf 𝓤 H (𝓖 .A) room.signature (room.spec 𝓤 H (𝓖 .A) (𝓜 .mem) (𝓡 .run)))
-    (tables 𝓤 H 𝓜 𝓡 code.env .C) (tables 𝓤 H 𝓜 𝓡 code.env .Λ) #levels·room code.function (code.unfolded 𝓤 H 𝓜 𝓡)
-    (walk-shows 𝓤 H (𝓖 .A) (givenOf 𝓤 H 𝓜 𝓖) room.ended (room.clauses 𝓤 H (𝓖 .A) (𝓜 .mem) (𝓡 .run)) stayed code.function (tablesOf 𝓤 H 𝓜 (tables 𝓤 H 𝓜 𝓡 code.env))
-    (goes-dropped 𝓤 H (𝓖 .A) (givenOf 𝓤 H 𝓜 𝓖) 1 (shrSliceOf (0 ∷ []) tt (plain (λ _. L.the-row))) yes (λ κs x f. refl), tt)
+    let W = givenOf 𝓤 H 𝓜 𝓖 in
+    proved 𝓤 H 𝓜 𝓖 𝓡 room.ended (room.clauses 𝓤 H (𝓖 .A) (𝓜 .mem) (𝓡 .run)) stayed code.function code.env #levels·room (code.unfolded 𝓤 H 𝓜 𝓡)
+    (goes-dropped 𝓤 H (𝓖 .A) W 1 (shrSliceOf (0 ∷ []) tt (plain (λ _. L.the-row))) yes (λ κs x f. refl), tt)
     (λ κs. (slice-vals, tt)) (λ κs. (shr-slice-tells (named 0) (κs .0) L.the-row, tt))
-    (λ κs qs bounds a g are. via 𝓤 _ (fst∗ 𝓤 _ (emp 𝓤)) (walk 𝓤 H (𝓖 .A) (givenOf 𝓤 H 𝓜 𝓖) (𝓜 .mem) (𝓡 .run) (tablesOf 𝓤 H 𝓜 (tables 𝓤 H 𝓜 𝓡 code.env)) (κs .0) (qs .0) (a .0) (are .0))))
+    (λ κs qs bounds a g are. via 𝓤 _ (fst∗ 𝓤 _ (emp 𝓤)) (walk 𝓤 H (𝓖 .A) W (𝓜 .mem) (𝓡 .run) (tablesOf 𝓤 H 𝓜 (tables 𝓤 H 𝓜 𝓡 code.env)) (κs .0) (qs .0) (a .0) (are .0)))
