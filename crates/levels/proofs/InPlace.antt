@@ -3,7 +3,7 @@
 --     picked ns Γ      the entries at the positions ns.        blanked ns Γ     the context with nothing there
 --     refilled ns Δ Γ  the context with the entries Δ there
 --     learns           a fact that an entry carries is learned where it stands
---     calls-by         the call rule over these. What it asks of the callee is `Gives`: from the entries Δ, after an update, the
+--     calls-by, calls-by-last          the call rule over these, and the same of a call that ends its part. What they ask of the callee is `Gives`: from the entries Δ, after an update, the
 --                      callee runs on vs, and returns v and no other value, with the fact φ and the entries Δ′
 use mathlib.Core.Path.{_≡_, refl, sym, ap, subst}
 use Prim.Native.Nat.{ℕ, zero, suc}
@@ -16,7 +16,7 @@ use base.Fml.{ftrue}
 use prog.Wp.{Heap, Env, Tables, evalOpds}
 use ghost.Atoms.{Atoms}
 use sound.WpLaws.{fmOf, evalOpds-fm, ⇛-fm}
-use types.Kit.{Given, Item, ‵, raw, given, later, mean, ⋆, push, pop, nth, put, del, pull, fill, Post, Goal, runs, lands, aim, Seq, _$_, !, by, learn, await}
+use types.Kit.{Given, Item, ‵, raw, given, later, mean, ⋆, push, pop, nth, put, del, pull, fill, Post, Goal, Soaks, runs, lands, settles, aim, Seq, _$_, !, by, learn, await}
 use types.Run.{Opds}
 use Rattle.levels.proofs.Locals.{meaning-of}
 
@@ -97,15 +97,15 @@ module _ {M : Type 1} {𝓤 : URA M} {H : Heap 𝓤} {A : Atoms 𝓤} {K : Type 
       (monoL 𝓤 P (os .go (λ us. wand 𝓤 P (Kt us)) (wandI 𝓤 (⋆ 𝓤 H A Γ) P (Kt vs) (via 𝓤 (sep 𝓤 P (⋆ 𝓤 H A Γ)) (comm∗ 𝓤 (⋆ 𝓤 H A Γ) P) h))))
       (evalOpds-fm 𝓤 H (W .laws) E xs (λ us. wand 𝓤 P (Kt us)) Kt P (λ us. via 𝓤 (sep 𝓤 P (wand 𝓤 P (Kt us))) (comm∗ 𝓤 (wand 𝓤 P (Kt us)) P) (apply∗ 𝓤 P (Kt us)))))
 
-module _ {M : Type 1} {𝓤 : URA M} {H : Heap 𝓤} {A : Atoms 𝓤} {K : Type 0} {W : Given 𝓤 H A} {Γ : List (Item 𝓤)} {E : Env 𝓤 H} {q : Post 𝓤 H} {f : Name} {xs : List Operand} {d : Place} {rest : Body} where
-  pub calls-by : K → (𝓣 : Tables 𝓤 H) (ns : List ℕ) {Δ : List (Item 𝓤)} → picked 𝓤 H A ns Γ ≡ Δ → {vs : List Val} {v : Val} {φ : Type 0} {Δ′ : List (Item 𝓤)} → Gives 𝓤 H A (𝓣 .C f) Δ vs v φ Δ′
-      → Opds K W (blanked 𝓤 H A ns Γ) E xs vs → (φ → Seq K W (refilled 𝓤 H A ns Δ′ Γ) (lands (𝓣 .C) (𝓣 .Λ) E d v rest q)) → Seq K W Γ (runs (𝓣 .C) (𝓣 .Λ) E (seq (call f xs d) rest) q)
-  calls-by t 𝓣 ns {Δ} at-ns {vs} {v} {φ} {Δ′} g os k = record {
-    prf =
-        via 𝓤 (sep 𝓤 (⋆ 𝓤 H A Δ) B) (subst (λ (Δ₁ : List (Item 𝓤)). ent 𝓤 (⋆ 𝓤 H A Γ) (sep 𝓤 (⋆ 𝓤 H A Δ₁) B)) at-ns (takes-out 𝓤 H A ns Γ))
-        (via 𝓤 (sep 𝓤 (H .⇛ (𝓣 .C f vs Q)) B) (monoL 𝓤 B (g .gives))
-        (⇛-fm 𝓤 H (W .laws) (𝓣 .C f vs Q) (evalOpds 𝓤 H E xs (λ us. 𝓣 .C f us after)) B (read-beside os (𝓣 .C f vs Q) (λ us. 𝓣 .C f us after) (fmOf 𝓤 H (W .laws) 𝓣 f vs Q after B returned))));
-  }
+module _ {M : Type 1} {𝓤 : URA M} {H : Heap 𝓤} {A : Atoms 𝓤} {K : Type 0} {W : Given 𝓤 H A} (Γ : List (Item 𝓤)) {E : Env 𝓤 H} {f : Name} {xs : List Operand} where
+  -- the call itself: `after r` is what is to be shown once it has returned r
+  called : K → (𝓣 : Tables 𝓤 H) (ns : List ℕ) {Δ : List (Item 𝓤)} → picked 𝓤 H A ns Γ ≡ Δ → {vs : List Val} {v : Val} {φ : Type 0} {Δ′ : List (Item 𝓤)} → Gives 𝓤 H A (𝓣 .C f) Δ vs v φ Δ′
+      → Opds K W (blanked 𝓤 H A ns Γ) E xs vs → (after : Val → Goal 𝓤 H) → ((r : Val) → Soaks (after r)) → (φ → Seq K W (refilled 𝓤 H A ns Δ′ Γ) (after v))
+      → ent 𝓤 (⋆ 𝓤 H A Γ) (H .⇛ (evalOpds 𝓤 H E xs (λ us. 𝓣 .C f us (λ r. aim 𝓤 H (after r)))))
+  called t 𝓣 ns {Δ} at-ns {vs} {v} {φ} {Δ′} g os after soaks k =
+      via 𝓤 (sep 𝓤 (⋆ 𝓤 H A Δ) B) (subst (λ (Δ₁ : List (Item 𝓤)). ent 𝓤 (⋆ 𝓤 H A Γ) (sep 𝓤 (⋆ 𝓤 H A Δ₁) B)) at-ns (takes-out 𝓤 H A ns Γ))
+      (via 𝓤 (sep 𝓤 (H .⇛ (𝓣 .C f vs Q)) B) (monoL 𝓤 B (g .gives))
+      (⇛-fm 𝓤 H (W .laws) (𝓣 .C f vs Q) (evalOpds 𝓤 H E xs (λ us. 𝓣 .C f us Then)) B (read-beside os (𝓣 .C f vs Q) (λ us. 𝓣 .C f us Then) (fmOf 𝓤 H (W .laws) 𝓣 f vs Q Then B returned))))
     where
       B : SProp 𝓤
       B = ⋆ 𝓤 H A (blanked 𝓤 H A ns Γ)
@@ -113,9 +113,19 @@ module _ {M : Type 1} {𝓤 : URA M} {H : Heap 𝓤} {A : Atoms 𝓤} {K : Type 
       Q : Val → SProp 𝓤
       Q r = H .⇛ (guard 𝓤 ((r ≡ v) × φ) (⋆ 𝓤 H A Δ′))
 
-      after : Val → SProp 𝓤
-      after r = aim 𝓤 H (lands (𝓣 .C) (𝓣 .Λ) E d r rest q)
+      Then : Val → SProp 𝓤
+      Then r = aim 𝓤 H (after r)
 
-      returned : (r : Val) → ent 𝓤 (sep 𝓤 (Q r) B) (after r)
-      returned r = meaning-of W (later (given ((r ≡ v) × φ) (raw (⋆ 𝓤 H A Δ′))) ∷ raw B ∷ []) (lands (𝓣 .C) (𝓣 .Λ) E d r rest q) (await ! tt $ learn ! (λ e.
-          by ! (subst (λ (u : Val). ent 𝓤 (sep 𝓤 (⋆ 𝓤 H A Δ′) B) (after u)) (sym (e .0)) (via 𝓤 (⋆ 𝓤 H A (refilled 𝓤 H A ns Δ′ Γ)) (puts-in 𝓤 H A ns Δ′ Γ) (k (e .1) .prf)))))
+      returned : (r : Val) → ent 𝓤 (sep 𝓤 (Q r) B) (Then r)
+      returned r = meaning-of W (later (given ((r ≡ v) × φ) (raw (⋆ 𝓤 H A Δ′))) ∷ raw B ∷ []) (after r) (await ! (soaks r) $ learn ! (λ e.
+          by ! (subst (λ (u : Val). ent 𝓤 (sep 𝓤 (⋆ 𝓤 H A Δ′) B) (Then u)) (sym (e .0)) (via 𝓤 (⋆ 𝓤 H A (refilled 𝓤 H A ns Δ′ Γ)) (puts-in 𝓤 H A ns Δ′ Γ) (k (e .1) .prf)))))
+
+module _ {M : Type 1} {𝓤 : URA M} {H : Heap 𝓤} {A : Atoms 𝓤} {K : Type 0} {W : Given 𝓤 H A} {Γ : List (Item 𝓤)} {E : Env 𝓤 H} {q : Post 𝓤 H} {f : Name} {xs : List Operand} {d : Place} where
+  pub calls-by : K → (𝓣 : Tables 𝓤 H) {rest : Body} (ns : List ℕ) {Δ : List (Item 𝓤)} → picked 𝓤 H A ns Γ ≡ Δ → {vs : List Val} {v : Val} {φ : Type 0} {Δ′ : List (Item 𝓤)} → Gives 𝓤 H A (𝓣 .C f) Δ vs v φ Δ′
+      → Opds K W (blanked 𝓤 H A ns Γ) E xs vs → (φ → Seq K W (refilled 𝓤 H A ns Δ′ Γ) (lands (𝓣 .C) (𝓣 .Λ) E d v rest q)) → Seq K W Γ (runs (𝓣 .C) (𝓣 .Λ) E (seq (call f xs d) rest) q)
+  calls-by t 𝓣 {rest} ns at-ns g os k = record { prf = called Γ t 𝓣 ns at-ns g os (λ r. lands (𝓣 .C) (𝓣 .Λ) E d r rest q) (λ r. tt) k }
+
+  -- a call that is the last statement of its part, as of an arm
+  pub calls-by-last : K → (𝓣 : Tables 𝓤 H) (ns : List ℕ) {Δ : List (Item 𝓤)} → picked 𝓤 H A ns Γ ≡ Δ → {vs : List Val} {v : Val} {φ : Type 0} {Δ′ : List (Item 𝓤)} → Gives 𝓤 H A (𝓣 .C f) Δ vs v φ Δ′
+      → Opds K W (blanked 𝓤 H A ns Γ) E xs vs → (φ → Seq K W (refilled 𝓤 H A ns Δ′ Γ) (settles E d v q)) → Seq K W Γ (runs (𝓣 .C) (𝓣 .Λ) E (call f xs d) q)
+  calls-by-last t 𝓣 ns at-ns g os k = record { prf = called Γ t 𝓣 ns at-ns g os (λ r. settles E d r q) (λ r. tt) k }

@@ -2,7 +2,7 @@
 -- is read off the code: a `refl` says that the local holds what the context says of it.
 --     var, count, pointer, bundle      operands and right sides: a local; a slice's count; where a slice begins; a slice of the two
 --     lets, lets-last      a local that holds nothing is assigned.        sets, sets-last      one that holds something is
---     lands-in             a call's result goes to a local that holds nothing
+--     lands-in, lands-in-last      a call's result goes to a local that holds nothing
 --     begins               a function is entered: each parameter's local holds what was passed
 use mathlib.Core.Path.{_≡_, refl, sym, subst}
 use Prim.Native.Nat.{ℕ, _+_}
@@ -18,9 +18,9 @@ use base.Fml.{Share, fat, froom}
 use prog.Memory.{fieldOf, fieldAt}
 use prog.Wp.{Heap, Env, Calls, Loops, WpFn, spotOf, next}
 use ghost.Atoms.{Atoms}
-use types.Kit.{Given, Item, ‵, raw, _⊛_, ⋆, push, pop, ++⊢, ⊢++, nth, put, Post, post, Goal, prop, runs, lands, allocs, params′, passes, aim, atRet, Seq, Step, step, _$_, _∵_, !, qed, by, move, use2, split, suffices, frame, done}
+use types.Kit.{Given, Item, ‵, raw, _⊛_, ⋆, push, pop, ++⊢, ⊢++, nth, put, Post, post, Goal, prop, runs, lands, settles, allocs, params′, passes, aim, atRet, Seq, Step, step, _$_, _∵_, !, qed, by, move, use2, split, suffices, frame, done}
 use types.Part.{Part, whole, sub, agg, look-in}
-use types.Run.{Opd, Rv, look, init, store, stop, hop, fld, from, load, addr, no-more, and-then, assigns, assigns-last, land, enter, params1, pass1, pass0}
+use types.Run.{Opd, Rv, look, init, store, stop, hop, fld, from, load, addr, no-more, and-then, assigns, assigns-last, land, land-last, enter, params1, pass1, pass0}
 use denote.Slice.{sliceTy, sliceVal}
 use Rattle.levels.proofs.Locals.{Blocks, placed, lying, dying, allocated, meaning-of}
 
@@ -48,6 +48,10 @@ module _ {M : Type 1} {𝓤 : URA M} {H : Heap 𝓤} {A : Atoms 𝓤} {K : Type 
     pub lands-in : K → {i : ℕ} {rest : Body} {v : Val} → nth 𝓤 H A i Γ ≡ ‵ (froom (spotOf 𝓤 H E i .0) (spotOf 𝓤 H E i .1) 0) → T (hasTy (spotOf 𝓤 H E i .0) v) × WT v
         → Step K W (put 𝓤 H A i (‵ (fat fullShare (spotOf 𝓤 H E i .0) (spotOf 𝓤 H E i .1) 0 v)) Γ) (runs C Λ E rest q) Γ (lands C Λ E (place i []) v rest q)
     lands-in t {i} e wt = land t (from t (stop t)) (init t i e wt)
+
+  pub lands-in-last : K → {q : Post 𝓤 H} {i : ℕ} {v : Val} → nth 𝓤 H A i Γ ≡ ‵ (froom (spotOf 𝓤 H E i .0) (spotOf 𝓤 H E i .1) 0) → T (hasTy (spotOf 𝓤 H E i .0) v) × WT v
+      → Step K W (put 𝓤 H A i (‵ (fat fullShare (spotOf 𝓤 H E i .0) (spotOf 𝓤 H E i .1) 0 v)) Γ) (prop (post 𝓤 H q next)) Γ (settles E (place i []) v q)
+  lands-in-last t {i = i} e wt = land-last t (from t (stop t)) (init t i e wt)
 
   -- a slice in local m: its count, and where it begins
   pub count : K → {m : ℕ} {q : Share} {ρ : Ty} {p : ℕ × ℕ} {n d : ℕ} → nth 𝓤 H A m Γ ≡ ‵ (fat q (sliceTy ρ) (spotOf 𝓤 H E m .1) 0 (sliceVal p n)) → fieldOf (spotOf 𝓤 H E m .0) 1 ≡ some (tyInt w64, d) → fieldAt 0 (tcons ρ (tcons (tyInt w64) tnil)) 1 ≡ some (tyInt w64, d)
