@@ -8,3 +8,4 @@ pub mod Store
 pub mod Loop
 pub mod ArrayLoans
 pub mod Lines
+pub mod Parameters

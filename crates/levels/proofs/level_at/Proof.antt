@@ -22,7 +22,7 @@ use contract.Monad.{Fun}
 use contract.Running.{givenOf, tables, tablesOf}
 use types.Kit.{Given, Item, ‵, raw, _⊛_, ⋆, Sq, runs, atRet, _$_, _∵_, !, qed, by, move, keep, drop, split, join, rewrite, fsplit, fjoin, suffices, frame, done}
 use types.Part.{whole, sub, agg, look-in}
-use types.Run.{look, look-raw, init, stop, hop, fld, from, load, lit, no-more, and-then, of-opd, bin, assigns, assigns-last, first, branches, exec, returns, enter, params1, pass1, pass0}
+use types.Run.{look, look-raw, init, stop, hop, fld, from, load, lit, no-more, and-then, of-opd, bin, assigns, assigns-last, first, branches, exec, returns}
 use types.Share.{arr-parts}
 use denote.RattleType.{owns}
 use denote.Laws.{Is, shows}
@@ -42,7 +42,8 @@ use Rattle.meaning.specs.declared.Level.{Level}
 use Rattle.meaning.specs.FullReading.{blank}
 use Rattle.meaning.proofs.Level as L
 use Rattle.meaning.proofs.Level.Laws as L′
-use Rattle.levels.proofs.Locals.{Blocks, placed, lying, dying, allocated, freed}
+use Rattle.levels.proofs.Locals.{Blocks, placed, lying, dying, freed}
+use Rattle.levels.proofs.Lines.{var, count, lets, lets-last, begins}
 use Rattle.levels.proofs.Meets.{proved}
 use Rattle.levels.proofs.Element.{record-type, machine, machines, Fits, tells, makes, copies, typed}
 use Rattle.levels.proofs.level_at.Key.{name as #levels·level-at}
@@ -89,8 +90,7 @@ module _ {M : Type 1} (𝓤 : URA M) (H : Heap 𝓤) (A : Atoms 𝓤) (W : Given
     tail : (t : Bool) (u₆ u₇ u₈ : Option Val) → Fits answer
         → Sq W (lying 𝓤 H E (none ∷ some v ∷ some (vint w64 i) ∷ some (vint w64 n) ∷ some (vbool t) ∷ some (machine answer) ∷ u₆ ∷ u₇ ∷ u₈ ∷ []) ++ (‵ (dying 𝓤 H E) ∷ ‵ (flft κ q) ∷ [])) (runs (𝓣 .C) (𝓣 .Λ) E body.t-4 (atRet E Post))
     tail t u₆ u₇ u₈ fits =
-        assigns ! (of-opd ! (load ! (from ! (stop !)) (look ! 5 refl))) (from ! (stop !)) (init ! 0 refl (typed 𝓤 H A W answer fits)) $
-        returns ! (look ! 0 refl) $ freed W E (some (machine answer) ∷ some v ∷ some (vint w64 i) ∷ some (vint w64 n) ∷ some (vbool t) ∷ some (machine answer) ∷ u₆ ∷ u₇ ∷ u₈ ∷ []) $ by ! (exits fits)
+        lets ! (of-opd ! (var ! refl)) refl (typed 𝓤 H A W answer fits) $ returns ! (look ! 0 refl) $ freed W E (some _ ∷ some _ ∷ some _ ∷ some _ ∷ some _ ∷ some _ ∷ u₆ ∷ u₇ ∷ u₈ ∷ []) $ by ! (exits fits)
 
   -- a record takes eight bytes, and all of them together have room
   offset-fits : Is (ShrSlice (named 0) κ record-type) x (v ∷ []) → i < n → i * 8 < 2 ^ 64
@@ -102,14 +102,11 @@ module _ {M : Type 1} (𝓤 : URA M) (H : Heap 𝓤) (A : Atoms 𝓤) (W : Given
       qed W ((‵ (flft κ q) ⊛ ‵ ftrue) ∷ ‵ (owns (ShrSlice (named 0) κ record-type ∷ usize ∷ []) (x, (i, tt)) (v ∷ [], (vint w64 i ∷ [], tt))) ∷ []) ∵
       split ! $ move ! (2 ∷ []) $ fsplit ! $ fsplit ! $ drop ! $ fsplit ! $ keep ! (1 ∷ 3 ∷ []) $
       -- [the fractured borrow; the token]
-      enter ! (𝓣 .C) (𝓣 .Λ) code.function (v ∷ vint w64 i ∷ []) _ $
-      allocated ! (λ bs. params1 ! $ pass1 ! (init ! 1 refl (shr-slice-lawful 𝓤 H A W (named 0) κ record-type .typed x (v ∷ []) p .0)) $ pass1 ! (init ! 2 refl (tt, record { fits = gi })) $ pass0 ! $
-      assigns ! (of-opd ! (load ! (from ! (fld ! refl (stop !))) (look-in ! 1 (sub ! 1 refl (whole !))))) (from ! (stop !)) (init ! 3 refl (tt, record { fits = p .0 .1 .0 })) $
-      assigns ! (bin ! (load ! (from ! (stop !)) (look ! 2 refl)) (load ! (from ! (stop !)) (look ! 3 refl)) tt) (from ! (stop !)) (init ! 4 refl (tt, tt)) $
-      first ! $ branches ! (load ! (from ! (stop !)) (look ! 4 refl))
+      begins ! (𝓣 .C) (𝓣 .Λ) code.function (v ∷ vint w64 i ∷ []) _ (shr-slice-lawful 𝓤 H A W (named 0) κ record-type .typed x (v ∷ []) p .0, ((tt, record { fits = gi }), tt)) (λ bs.
+      lets ! (of-opd ! (count ! refl refl refl)) refl (tt, record { fits = p .0 .1 .0 }) $ lets ! (bin ! (var ! refl) (var ! refl) tt) refl (tt, tt) $ first ! $ branches ! (var ! refl)
       (λ h.
-      assigns ! (bin ! (load ! (from ! (stop !)) (look ! 2 refl)) (lit ! tt) (record { fits = offset-fits p (ltb→lt i n h) })) (from ! (stop !)) (init ! 6 refl (tt, record { fits = offset-fits p (ltb→lt i n h) })) $
-      assigns ! (bin ! (load ! (from ! (fld ! refl (stop !))) (look-in ! 1 (sub ! 0 refl (whole !)))) (load ! (from ! (stop !)) (look ! 6 refl)) tt) (from ! (stop !)) (init ! 7 refl (tt, tt)) $
+      lets ! (bin ! (var ! refl) (lit ! tt) (record { fits = offset-fits p (ltb→lt i n h) })) refl (tt, record { fits = offset-fits p (ltb→lt i n h) }) $
+      lets ! (bin ! (load ! (from ! (fld ! refl (stop !))) (look-in ! 1 (sub ! 0 refl (whole !)))) (var ! refl) tt) refl (tt, tt) $
       rewrite ! 7 (λ (z : ℕ). ‵ (fat fullShare tyPtr (bs .1 .1 .1 .1 .1 .1 .1 .0) 0 (vptr b z))) (sym (place-is 8 o i)) refl $
       move ! (10 ∷ 11 ∷ []) $
       looks-slice ! tt record-type (Is record-type) (shows 𝓤 H A record-type) machines tells (copies 𝓤 H A W) ys b o (λ q′.
@@ -122,7 +119,7 @@ module _ {M : Type 1} (𝓤 : URA M) (H : Heap 𝓤) (A : Atoms 𝓤) (W : Given
       keep ! (2 ∷ 3 ∷ 4 ∷ 5 ∷ 6 ∷ 7 ∷ 8 ∷ 9 ∷ 10 ∷ 11 ∷ 0 ∷ []) $
       exec ! (𝓣 .C) (𝓣 .Λ) (E bs) body.t-4 (atRet (E bs) Post) $ tail bs (ltb i n) (some (vint w64 (i * 8))) (some (vptr b (place 8 o i))) (some (machine answer)) fits)))
       (λ h.
-      assigns-last ! (agg ! (and-then ! (lit ! tt) (and-then ! (lit ! tt) (no-more !)))) (from ! (stop !)) (init ! 5 refl (typed 𝓤 H A W blank blank-fits)) $
+      lets-last ! (agg ! (and-then ! (lit ! tt) (and-then ! (lit ! tt) (no-more !)))) refl (typed 𝓤 H A W blank blank-fits) $
       rewrite ! 5 (λ (d : Level). ‵ (fat fullShare L′.mir (bs .1 .1 .1 .1 .1 .0) 0 (machine d))) (sym (List·getD-eq-default ys blank {n = i} (nltb→le i n h))) refl $
       keep ! (0 ∷ 1 ∷ 2 ∷ 3 ∷ 4 ∷ 5 ∷ 6 ∷ 7 ∷ 8 ∷ 9 ∷ 11 ∷ []) $
       exec ! (𝓣 .C) (𝓣 .Λ) (E bs) body.t-4 (atRet (E bs) Post) $

@@ -23,7 +23,7 @@ use contract.Monad.{Fun}
 use contract.Running.{givenOf, tables, tablesOf}
 use types.Kit.{Given, Item, ‵, _⊛_, ⋆, Sq, runs, atRet, _$_, _∵_, !, qed, by, move, keep, drop, split, join, rewrite, fsplit, fjoin, feqI, suffices, frame, done}
 use types.Part.{whole, sub, look-in}
-use types.Run.{look, store-raw, init, stop, hop, fld, from, load, lit, unit-lit, of-opd, bin, assigns, assigns-last, skips, first, branches, exec, returns, enter, params1, pass1, pass0}
+use types.Run.{look, store-raw, stop, hop, fld, from, load, lit, unit-lit, of-opd, bin, assigns-last, skips, first, branches, exec, returns}
 use denote.RattleType.{owns}
 use denote.Shadow.{pureI}
 use denote.Laws.{Is, shows}
@@ -39,7 +39,8 @@ use denote.Triple.Walked.{says, Stays, stay-slice, stay-dropped, goes-slice, goe
 use denote.Exit.{yes}
 use denote.Ref.{RefT}
 use Rattle.meaning.specs.declared.Level.{Level}
-use Rattle.levels.proofs.Locals.{Blocks, placed, lying, dying, allocated, freed}
+use Rattle.levels.proofs.Locals.{Blocks, placed, lying, dying, freed}
+use Rattle.levels.proofs.Lines.{var, count, lets, begins}
 use Rattle.levels.proofs.Meets.{proved}
 use Rattle.levels.proofs.Element.{record-type, machine, machines, Fits, tells, makes, typed}
 use Rattle.levels.proofs.put_level.Key.{name as #levels·put-level}
@@ -92,8 +93,7 @@ module _ {M : Type 1} (𝓤 : URA M) (H : Heap 𝓤) (A : Atoms 𝓤) (W : Given
       tail : (t : Bool) (u₆ u₇ : Option Val)
           → Sq W (lying 𝓤 H E (none ∷ some v ∷ some (vint w64 i) ∷ some (machine d) ∷ some (vint w64 n) ∷ some (vbool t) ∷ u₆ ∷ u₇ ∷ []) ++ (‵ (dying 𝓤 H E) ∷ Apart zs)) (runs (𝓣 .C) (𝓣 .Λ) E body.t-4 (atRet E Post))
       tail t u₆ u₇ =
-          assigns ! (of-opd ! (unit-lit !)) (from ! (stop !)) (init ! 0 refl (tt, tt)) $
-          returns ! (look ! 0 refl) $ freed W E (some vunit ∷ some v ∷ some (vint w64 i) ∷ some (machine d) ∷ some (vint w64 n) ∷ some (vbool t) ∷ u₆ ∷ u₇ ∷ []) $ by ! exits
+          lets ! (of-opd ! (unit-lit !)) refl (tt, tt) $ returns ! (look ! 0 refl) $ freed W E (some _ ∷ some _ ∷ some _ ∷ some _ ∷ some _ ∷ some _ ∷ u₆ ∷ u₇ ∷ []) $ by ! exits
 
   -- a record takes eight bytes, and all of them together have room
   offset-fits : Room record-type n → i < n → i * 8 < 2 ^ 64
@@ -104,14 +104,11 @@ module _ {M : Type 1} (𝓤 : URA M) (H : Heap 𝓤) (A : Atoms 𝓤) (W : Given
   walk p gi fits =
       qed W ((‵ (flft κ q) ⊛ ‵ ftrue) ∷ ‵ (owns (MutSlice (named 0) κ record-type ∷ usize ∷ record-type ∷ []) (at-list ys, (i, (d, tt))) at) ∷ []) ∵
       split ! $ move ! (2 ∷ []) $ fsplit ! $ fsplit ! $ drop ! $ fsplit ! $ keep ! (0 ∷ 1 ∷ 3 ∷ []) $
-      enter ! (𝓣 .C) (𝓣 .Λ) code.function (v ∷ vint w64 i ∷ machine d ∷ []) _ $
-      allocated ! (λ bs. params1 ! $ pass1 ! (init ! 1 refl (mut-slice-lawful 𝓤 H A W (named 0) κ record-type .typed (at-list ys) (v ∷ []) p .0)) $ pass1 ! (init ! 2 refl (tt, record { fits = gi })) $ pass1 ! (init ! 3 refl (typed 𝓤 H A W d fits)) $ pass0 ! $
-      assigns ! (of-opd ! (load ! (from ! (fld ! refl (stop !))) (look-in ! 1 (sub ! 1 refl (whole !))))) (from ! (stop !)) (init ! 4 refl (tt, record { fits = p .0 .1 .0 })) $
-      assigns ! (bin ! (load ! (from ! (stop !)) (look ! 2 refl)) (load ! (from ! (stop !)) (look ! 4 refl)) tt) (from ! (stop !)) (init ! 5 refl (tt, tt)) $
-      first ! $ branches ! (load ! (from ! (stop !)) (look ! 5 refl))
+      begins ! (𝓣 .C) (𝓣 .Λ) code.function (v ∷ vint w64 i ∷ machine d ∷ []) _ (mut-slice-lawful 𝓤 H A W (named 0) κ record-type .typed (at-list ys) (v ∷ []) p .0, ((tt, record { fits = gi }), (typed 𝓤 H A W d fits, tt))) (λ bs.
+      lets ! (of-opd ! (count ! refl refl refl)) refl (tt, record { fits = p .0 .1 .0 }) $ lets ! (bin ! (var ! refl) (var ! refl) tt) refl (tt, tt) $ first ! $ branches ! (var ! refl)
       (λ h.
-      assigns ! (bin ! (load ! (from ! (stop !)) (look ! 2 refl)) (lit ! tt) (record { fits = offset-fits (p .0 .1) (ltb→lt i n h) })) (from ! (stop !)) (init ! 6 refl (tt, record { fits = offset-fits (p .0 .1) (ltb→lt i n h) })) $
-      assigns ! (bin ! (load ! (from ! (fld ! refl (stop !))) (look-in ! 1 (sub ! 0 refl (whole !)))) (load ! (from ! (stop !)) (look ! 6 refl)) tt) (from ! (stop !)) (init ! 7 refl (tt, tt)) $
+      lets ! (bin ! (var ! refl) (lit ! tt) (record { fits = offset-fits (p .0 .1) (ltb→lt i n h) })) refl (tt, record { fits = offset-fits (p .0 .1) (ltb→lt i n h) }) $
+      lets ! (bin ! (load ! (from ! (fld ! refl (stop !))) (look-in ! 1 (sub ! 0 refl (whole !)))) (var ! refl) tt) refl (tt, tt) $
       rewrite ! 7 (λ (z : ℕ). ‵ (fat fullShare tyPtr (bs .1 .1 .1 .1 .1 .1 .1 .0) 0 (vptr b z))) (sym (place-is 8 o i)) refl $
       move ! (9 ∷ 10 ∷ 11 ∷ []) $ opens-slice ! tt record-type ys b o $
       elem-out ! record-type (Is record-type) (shows 𝓤 H A record-type) machines tells fullShare ys i d b o (ltb→lt i n h) (λ _.
