@@ -42,7 +42,6 @@ module _ {M : Type 1} (𝓤 : URA M) (H : Heap 𝓤) (A : Atoms 𝓤) where
 
   infix 26 _⊢_
   infixr 35 _∗_
-
   -- one entry out, and one in
   out : (n : ℕ) (Γ : List (Item 𝓤)) → ⋆ 𝓤 H A Γ ⊢ mean 𝓤 H A (nth 𝓤 H A n Γ) ∗ ⋆ 𝓤 H A (put 𝓤 H A n (‵ ftrue) Γ)
   out n Γ = via 𝓤 _ (pull 𝓤 H A n Γ) (monoR 𝓤 (mean 𝓤 H A (nth 𝓤 H A n Γ)) (via 𝓤 (emp 𝓤 ∗ ⋆ 𝓤 H A (del 𝓤 H A n Γ)) (emp∗ 𝓤 (⋆ 𝓤 H A (del 𝓤 H A n Γ))) (fill 𝓤 H A n (‵ ftrue) Γ)))

@@ -61,8 +61,18 @@ module _ {M : Type 1} (𝓤 : URA M) (H : Heap 𝓤) (A : Atoms 𝓤) (R : Rattl
 
   abbrev pub as-mut : MutLoan → Loan 𝓤 H A
   as-mut l = record {
-    Made = l .Made; lifetime = l .lifetime; share = l .share; Last = List (R .Denot); before = l .before; after = l .after; machine = sliceVal (b, o) n;
-    own = λ z. OwnMut (l .lifetime z) (l .name z); left = λ z zs. Finally (l .name z) zs; keeps = l .keeps; lends = l .lends; returns = l .returns;
+    Made = l .Made;
+    lifetime = l .lifetime;
+    share = l .share;
+    Last = List (R .Denot);
+    before = l .before;
+    after = l .after;
+    machine = sliceVal (b, o) n;
+    own = λ z. OwnMut (l .lifetime z) (l .name z);
+    left = λ z zs. Finally (l .name z) zs;
+    keeps = l .keeps;
+    lends = l .lends;
+    returns = l .returns;
   }
 
   pub record ShrLoan : Type 2 where
@@ -77,8 +87,18 @@ module _ {M : Type 1} (𝓤 : URA M) (H : Heap 𝓤) (A : Atoms 𝓤) (R : Rattl
 
   abbrev pub as-shr : ShrLoan → Loan 𝓤 H A
   as-shr l = record {
-    Made = l .Made; lifetime = l .lifetime; share = l .share; Last = Unit {0}; before = l .before; after = λ _. l .before; machine = sliceVal (b, o) n;
-    own = λ z. OwnShr (l .lifetime z) (l .name z); left = λ z _. ftrue; keeps = l .keeps; lends = l .lends; returns = λ z _. l .returns z;
+    Made = l .Made;
+    lifetime = l .lifetime;
+    share = l .share;
+    Last = Unit {0};
+    before = l .before;
+    after = λ _. l .before;
+    machine = sliceVal (b, o) n;
+    own = λ z. OwnShr (l .lifetime z) (l .name z);
+    left = λ z _. ftrue;
+    keeps = l .keeps;
+    lends = l .lends;
+    returns = λ z _. l .returns z;
   }
 
 module _ (R : RattleType) where

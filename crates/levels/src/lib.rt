@@ -20,7 +20,10 @@ pub fn level_at(levels: &[Level], at: usize) -> Level
     if at < levels.len() {
         levels[at]
     } else {
-        Level { above: 0, opened: 0 }
+        Level {
+            above: 0,
+            opened: 0,
+        }
     }
 }
 
