@@ -22,9 +22,6 @@ abbrev pub Blocks : List Local → Type 0
 Blocks [] = Unit {0}
 Blocks (l ∷ ls) = ℕ × Blocks ls
 
-abbrev typeOf : Local → Ty
-typeOf (local τ h) = τ
-
 module _ {M : Type 1} (𝓤 : URA M) (H : Heap 𝓤) where
   abbrev pub placed : (ls : List Local) → Blocks ls → Env 𝓤 H
   placed [] bs = []

@@ -4,7 +4,6 @@ use meaning::Level;
 ghost use mathlib.Core.Path.{_≡_};
 ghost use lib.ListN.{length, getD, set};
 ghost use Rattle.meaning.specs.FullReading.{blank};
-ghost use Rattle.levels.specs.Filled.{filled};
 
 // How many records the store has.
 pub fn room(levels: &[Level]) -> usize
@@ -34,32 +33,4 @@ pub fn put_level(levels: &mut [Level], at: usize, level: Level)
     if at < levels.len() {
         levels[at] = level;
     }
-}
-
-// Stand-ins for the functions that only call these: a loop, a straight line, and one that lends an array of its own.
-pub fn fill(levels: &mut [Level], to: usize, level: Level) -> usize
-    ensures { λ r. ⌜ (r ≡ to) × (now (levels .exit) ≡ filled (now (levels .entry)) to level) ⌝ }
-{
-    let mut i = 0;
-    while i < to {
-        put_level(&mut *levels, i, level);
-        i += 1;
-    }
-    i
-}
-
-pub fn swap_in(levels: &mut [Level], at: usize, level: Level) -> Level
-    ensures { λ r. ⌜ (r ≡ getD (now (levels .entry)) at blank) × (now (levels .exit) ≡ set (now (levels .entry)) at level) ⌝ }
-{
-    let old = level_at(&*levels, at);
-    put_level(&mut *levels, at, level);
-    old
-}
-
-pub fn via_array(levels: [Level; 16], at: usize, level: Level) -> [Level; 16]
-    ensures { λ r. ⌜ r ≡ set levels at level ⌝ }
-{
-    let mut own = levels;
-    put_level(&mut own, at, level);
-    own
 }
