@@ -1,0 +1,11 @@
+pub mod Locals
+pub mod Meets
+pub mod Element
+pub mod InPlace
+pub mod Passing
+pub mod Loans
+pub mod Store
+pub mod Loop
+pub mod ArrayLoans
+pub mod Lines
+pub mod Parameters
