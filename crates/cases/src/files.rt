@@ -1,0 +1,140 @@
+// The rule check, the writer and the maker: every refusal that they can be brought to give.
+use crate::lines;
+use crate::rules::longer_a;
+use crate::rules::rule_a;
+use crate::rules::rule_b;
+use crate::rules::rule_c;
+use rule::Rule;
+use rule::writer;
+
+// Rule A with one byte changed.
+fn changed(place: usize, byte: u8) -> [u8; 47] {
+    let mut file = rule_a();
+    if place < 47 {
+        file[place] = byte;
+    }
+    file
+}
+
+fn check_changed(name: &[u8], place: usize, byte: u8) {
+    let file = changed(place, byte);
+    lines::checked(name, Rule::of_file(&file));
+}
+
+// So many bytes of a file.
+fn check_front(name: &[u8], file: &[u8], count: usize) {
+    if count <= file.len() {
+        lines::checked(name, Rule::of_file(&file[0..count]));
+    }
+}
+
+pub fn rule_checks() {
+    let file = rule_a();
+    check_front(b"rule A", &file, 47);
+    check_front(b"an empty file", &file, 0);
+    check_front(b"a header cut short", &file, 14);
+    check_front(b"a body cut short", &file, 20);
+    check_changed(b"another kind", 15, 3);
+    check_changed(b"another length", 11, 7);
+    check_changed(b"65 states", 6, 65);
+    check_changed(b"no state", 6, 0);
+    check_changed(b"an initial state of n", 7, 3);
+    check_changed(b"a tree start of n", 8, 3);
+    check_changed(b"no letter", 9, 0);
+    check_changed(b"257 letters", 10, 1);
+    check_changed(b"a letter move of n", 18, 3);
+    check_changed(b"a tree move of n", 30, 3);
+    check_changed(b"a class of none", 45, 255);
+    let longer = longer_a();
+    lines::checked(b"a byte after the fourth record", Rule::of_file(&longer));
+}
+
+// Rule A written with these numbers and letter moves into an output of so many bytes.
+fn write_a(
+    name: &[u8],
+    states: u8,
+    initial: u8,
+    start: u8,
+    letters: u16,
+    letter_moves: &[u8],
+    output: &mut [u8],
+) {
+    let tree_moves = [0, 2, 0, 1, 1, 1, 2, 2, 255];
+    let classes = [1, 0, 2];
+    lines::written(
+        name,
+        writer::write(
+            states,
+            initial,
+            start,
+            letters,
+            letter_moves,
+            &tree_moves,
+            &classes,
+            output,
+        ),
+    );
+}
+
+pub fn writings() {
+    let moves = [0, 1, 1, 1, 2, 255];
+    let mut output = [7u8; 64];
+    write_a(b"65 states written", 65, 0, 0, 2, &moves, &mut output);
+    write_a(
+        b"an initial state of n written",
+        3,
+        3,
+        0,
+        2,
+        &moves,
+        &mut output,
+    );
+    write_a(
+        b"a tree start of n written",
+        3,
+        0,
+        3,
+        2,
+        &moves,
+        &mut output,
+    );
+    write_a(b"no letter written", 3, 0, 0, 0, &moves, &mut output);
+    write_a(b"a short table", 3, 0, 0, 2, &[0, 1, 1, 1, 2], &mut output);
+    write_a(
+        b"a letter move of n written",
+        3,
+        0,
+        0,
+        2,
+        &[0, 1, 1, 3, 2, 255],
+        &mut output,
+    );
+    let mut little = [7u8; 46];
+    write_a(b"one byte too little room", 3, 0, 0, 2, &moves, &mut little);
+    let mut enough = [7u8; 47];
+    write_a(b"just enough room", 3, 0, 0, 2, &moves, &mut enough);
+    lines::checked(b"what was written", Rule::of_file(&enough));
+}
+
+// The book of so many bytes of a file.
+fn book_of(name: &[u8], file: &[u8], count: usize) {
+    let mut book = [0u64; 4];
+    if count <= file.len() {
+        let answer = book::make_book(&file[0..count], &mut book);
+        lines::made(name, answer, &book);
+    }
+}
+
+pub fn books() {
+    let a = rule_a();
+    let b = rule_b();
+    let c = rule_c();
+    book_of(b"rule A's book", &a, 47);
+    book_of(b"rule B's book", &b, 44);
+    book_of(b"rule C's book", &c, 44);
+    book_of(b"the book of a cut file", &a, 46);
+    let mut short = [0u64; 3];
+    let blank = [0u64; 4];
+    let answer = book::make_book(&a, &mut short);
+    lines::made(b"a book of three words", answer, &blank);
+}

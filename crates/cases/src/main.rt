@@ -1,0 +1,16 @@
+// The cases of document 01 that are not proved: each call is made, and what it answers is printed. The expected lines stand
+// in the file stdout.
+mod documents;
+mod files;
+mod lines;
+mod readings;
+mod rules;
+
+fn main() {
+    files::rule_checks();
+    files::writings();
+    files::books();
+    documents::cases();
+    documents::full_case();
+    readings::refusals();
+}

@@ -1,0 +1,91 @@
+// Readings that are none, and the limits of a reading: numbers 6, 13, 16 and 12.
+use crate::lines;
+use crate::rules::rule_a;
+use meaning::Reading;
+
+fn reading_at(state: u8, depth: u32, skip: u32, taken: u32, looks: u32) -> Reading {
+    Reading {
+        state,
+        depth,
+        skip,
+        taken,
+        looks,
+    }
+}
+
+// One event fed to a reading over two levels with a state above them, by some book.
+fn feed_with(name: &[u8], reading: Reading, above: u8, book: &[u64]) {
+    let file = rule_a();
+    let mut states = [above; 2];
+    let mut places = [0u32; 2];
+    lines::fed(
+        name,
+        reading::feed(
+            &file,
+            book,
+            0xffff_ffff,
+            reading,
+            &mut states,
+            &mut places,
+            &[2],
+        ),
+    );
+}
+
+// The same by rule A's own book.
+fn feed_one(name: &[u8], reading: Reading, above: u8) {
+    let file = rule_a();
+    let mut book = [0u64; 4];
+    book::make_book(&file, &mut book);
+    feed_with(name, reading, above, &book);
+}
+
+fn finish_at(name: &[u8], reading: Reading, opened: u32) {
+    let file = rule_a();
+    let mut book = [0u64; 4];
+    book::make_book(&file, &mut book);
+    let states = [0u8; 2];
+    let places = [9, opened];
+    lines::end(
+        name,
+        reading::finish(&file, &book, reading, &states, &places),
+        reading.looks,
+    );
+}
+
+pub fn refusals() {
+    feed_one(b"a fresh reading", reading_at(0, 0, 0, 0, 0), 0);
+    feed_with(
+        b"a book too short to read with",
+        reading_at(0, 0, 0, 0, 0),
+        0,
+        &[0, 0, 0],
+    );
+    feed_one(b"a state of n", reading_at(3, 0, 0, 0, 0), 0);
+    feed_one(
+        b"three levels in a store of two",
+        reading_at(0, 3, 0, 3, 3),
+        0,
+    );
+    feed_one(b"a stored state of n", reading_at(0, 1, 0, 1, 1), 3);
+    feed_one(
+        b"skipping on an unsettled level",
+        reading_at(0, 0, 1, 1, 1),
+        0,
+    );
+    feed_one(b"more levels than events", reading_at(0, 1, 0, 0, 0), 0);
+    feed_one(b"more looks than events", reading_at(0, 0, 0, 1, 2), 0);
+    feed_one(
+        b"the last event but one",
+        reading_at(0, 0, 0, 0xffff_fffe, 0),
+        0,
+    );
+    feed_one(
+        b"all events taken already",
+        reading_at(0, 0, 0, 0xffff_ffff, 0),
+        0,
+    );
+    finish_at(b"the innermost opening", reading_at(0, 2, 0, 20, 20), 11);
+    finish_at(b"a state of n at the end", reading_at(3, 0, 0, 0, 0), 0);
+    finish_at(b"an end", reading_at(2, 0, 0, 3, 3), 0);
+}
