@@ -4,6 +4,8 @@ use crate::rules::longer_a;
 use crate::rules::rule_a;
 use crate::rules::rule_b;
 use crate::rules::rule_c;
+use crate::rules::rule_of_none;
+use crate::rules::rule_of_one;
 use rule::Rule;
 use rule::writer;
 
@@ -132,6 +134,8 @@ pub fn books() {
     book_of(b"rule A's book", &a, 47);
     book_of(b"rule B's book", &b, 44);
     book_of(b"rule C's book", &c, 44);
+    book_of(b"the book of one state", &rule_of_one(), 32);
+    book_of(b"the book of no moves", &rule_of_none(), 44);
     book_of(b"the book of a cut file", &a, 46);
     let mut short = [0u64; 3];
     let blank = [0u64; 4];

@@ -2,6 +2,7 @@
 // in the file stdout.
 mod documents;
 mod files;
+mod largest;
 mod lines;
 mod readings;
 mod rules;
@@ -10,6 +11,7 @@ fn main() {
     files::rule_checks();
     files::writings();
     files::books();
+    largest::case();
     documents::cases();
     documents::full_case();
     readings::refusals();
