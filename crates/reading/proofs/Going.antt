@@ -18,7 +18,6 @@ use Rattle.meaning.specs.declared.Feeding.{Feeding}
 use Rattle.meaning.specs.declared.Feeding.the-variants as feeding
 use Rattle.meaning.specs.declared.Level.{Level}
 use Rattle.meaning.specs.declared.Reading.{Reading}
-use Rattle.meaning.specs.declared.Refusal.{Refusal}
 use Rattle.meaning.proofs.Accepted.{accepted-is-rule}
 use Rattle.meaning.proofs.FeedKeeps.{feed-taken}
 use Rattle.meaning.proofs.StillReading.{IsReading, reading-is, still-reading}

@@ -12,9 +12,8 @@ use Rattle.meaning.specs.RuleFile as format
 use Rattle.meaning.specs.RuleFile.{isState, ruleOf}
 use Rattle.meaning.specs.FullReading.{Event, stores, goOn, feedBy}
 use Rattle.meaning.specs.Skipping.{skipEvent}
-use Rattle.meaning.specs.Calls.{Stored, refusalSays, topOf, storedAfter, storeStep}
+use Rattle.meaning.specs.Calls.{Stored, topOf, storedAfter, storeStep}
 use Rattle.meaning.specs.declared.Reading.{Reading}
-use Rattle.meaning.specs.declared.Refusal.{Refusal}
 use Rattle.meaning.specs.declared.Level.{Level}
 use Rattle.meaning.proofs.StillReading.{IsReading, is-reading}
 use Rattle.meaning.proofs.Turns.{Turned, storesOpen, turned}

@@ -45,9 +45,16 @@ is-settled-requires c κs =
 
 settled-turn-requires : tie.Need-settled-turn-requires
 settled-turn-requires c κs =
-    let s = c .before .before .before .before .before .before .before .before .before in
-    (s .pre .ruled, (record { counted = s .pre .counted; more = omega arith }, (s .pre .states,
-    λ is. held-deep (now (s .args .book)) (s .args .reading) (s .args .top) (sym (c .before .before .is-held .ensures) ∙ is))))
+    let s = c .before .before .before .before .before .before .before .before .before in (
+      s .pre .ruled,
+      (
+        record { counted = s .pre .counted; more = omega arith },
+        (
+          s .pre .states,
+          λ is. held-deep (now (s .args .book)) (s .args .reading) (s .args .top) (sym (c .before .before .is-held .ensures) ∙ is),
+        ),
+      ),
+    )
 
 returns-3 : tie.Need-returns-3
 unfolding skipEvent skipTurn
