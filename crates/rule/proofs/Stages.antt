@@ -1,4 +1,4 @@
--- The rule check in the stages in which the code makes it: the first record, the four numbers, and the three tables.
+-- The rule check and the checks of the writer in the stages in which the code makes them: the numbers, and then the tables.
 use mathlib.Core.Path.{_≡_, refl}
 use mathlib.Core.Bool.{Bool, true, false}
 use mathlib.Core.List.{List, []}
@@ -44,24 +44,24 @@ given-giving a f = refl
 
 -- ---- one test for the numbers of every table
 
-pub move-in-range : (n : ℕ) → isMove n ≡ inRange n true
+move-in-range : (n : ℕ) → isMove n ≡ inRange n true
 unfolding inRange
 move-in-range n = refl
 
-pub class-in-range : isClass ≡ inRange 3 false
+class-in-range : isClass ≡ inRange 3 false
 unfolding inRange isState isClass
 class-in-range = refl
 
 -- the four numbers do not go by the tables
-pub numbers-alone : (n initial treeStart k : ℕ) (letterMoves treeMoves classes : List ℕ)
-    → numbersCheck (ruleFrom n initial treeStart k letterMoves treeMoves classes) ≡ numbersCheck (ruleFrom n initial treeStart k [] [] [])
+numbers-alone : (R : format.Rule)
+    → numbersCheck R ≡ numbersCheck (ruleFrom (R .states) (R .initial) (R .treeStart) (R .letters) [] [] [])
 unfolding numbersCheck ruleFrom
-numbers-alone n initial treeStart k letterMoves treeMoves classes = refl
+numbers-alone R = refl
 
 numbers-of-file : (file : List ℕ)
     → numbersCheck (ruleOf file) ≡ numbersCheck (ruleFrom (byteAt file 6) (byteAt file 7) (byteAt file 8) (number2 file 9) [] [] [])
-unfolding numbersCheck ruleFrom ruleOf
-numbers-of-file file = refl
+unfolding ruleOf
+numbers-of-file file = numbers-alone (ruleOf file)
 
 -- ---- the stages
 
@@ -85,14 +85,9 @@ afterGiven R room =
     refuse 14 at count when room <? count otherwise
     given count
 
-numbers-of-rule : (R : format.Rule)
-    → numbersCheck R ≡ numbersCheck (ruleFrom (R .states) (R .initial) (R .treeStart) (R .letters) [] [] [])
-unfolding numbersCheck ruleFrom
-numbers-of-rule R = refl
-
 pub write-stages : (R : format.Rule) (room : ℕ)
     → writeCheck R room
-    ≡ (numbersAnswer (R .states) (R .initial) (R .treeStart) (R .letters) giving λ (rule : Rule). afterGiven R room)
-unfolding writeCheck afterGiven numbersAnswer givenCheck
+    ≡ (numbersCheck (ruleFrom (R .states) (R .initial) (R .treeStart) (R .letters) [] [] []) andThen afterGiven R room)
+unfolding writeCheck afterGiven givenCheck
 write-stages R room =
-    simp (andThen-giving, given-giving, andThen-andThen, refuse-andThen, move-in-range, class-in-range, ← numbers-of-rule R)
+    simp (andThen-andThen, refuse-andThen, move-in-range, class-in-range, ← numbers-alone R)

@@ -6,11 +6,12 @@ use crate::tables::HEADER;
 use meaning::Refusal;
 ghost use mathlib.Core.Path.{_≡_};
 ghost use mathlib.Core.Bool.{_&&_};
+ghost use mathlib.Core.List.{[]};
 ghost use Prim.Native.Nat.{_+_, _<_, _^_};
 ghost use lib.ListN.{length};
 ghost use Rattle.meaning.specs.Answers.{refused, _≤?_};
-ghost use Rattle.meaning.specs.RuleFile.{number2, number4, recordCheck, tableCheck};
-ghost use Rattle.rule.specs.Checks.{outcomeSays, inRange, bodyCheck, tablesCheck};
+ghost use Rattle.meaning.specs.RuleFile.{number2, number4, numbersCheck, recordCheck, tableCheck};
+ghost use Rattle.rule.specs.Checks.{outcomeSays, inRange, ruleFrom, bodyCheck, tablesCheck};
 
 // What one check answers: it passes, or a refusal.
 pub enum Outcome {
@@ -44,17 +45,36 @@ fn number4(file: &[u8], place: usize) -> u32
 }
 
 // A count is from 1 to its most.
-pub fn from_one_to(most: u16, x: u16) -> bool
+fn from_one_to(most: u16, x: u16) -> bool
     ensures { λ r. ⌜ r ≡ (1 ≤? x && x ≤? most) ⌝ }
 {
     1 <= x && x <= most
 }
 
 // A number is below a bound, or none where that is allowed.
-pub fn in_range(below: u8, none: bool, x: u8) -> bool
+fn in_range(below: u8, none: bool, x: u8) -> bool
     ensures { λ r. ⌜ r ≡ inRange below none x ⌝ }
 {
     x < below || none && x == Rule::NONE
+}
+
+// The four numbers, in file order.
+pub fn numbers_check(states: u8, initial: u8, tree_start: u8, letters: u16) -> Outcome
+    ensures { λ r. ⌜ outcomeSays r ≡ numbersCheck (ruleFrom states initial «tree_start» letters [] [] []) ⌝ }
+{
+    if !from_one_to(Rule::MOST_STATES as u16, states as u16) {
+        return refuse(4, 6);
+    }
+    if !in_range(states, false, initial) {
+        return refuse(4, 7);
+    }
+    if !in_range(states, true, tree_start) {
+        return refuse(4, 8);
+    }
+    if !from_one_to(Rule::MOST_LETTERS, letters) {
+        return refuse(4, 9);
+    }
+    Outcome::Passes
 }
 
 // One record that stands at a place, of a kind and with a body of so many bytes.

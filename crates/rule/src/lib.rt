@@ -49,29 +49,13 @@ impl Rule {
     pub fn of_numbers(states: u8, initial: u8, tree_start: u8, letters: u16) -> Checked
         ensures { λ r. ⌜ checkedSays r ≡ numbersAnswer states initial «tree_start» letters ⌝ }
     {
-        if !check::from_one_to(Self::MOST_STATES as u16, states as u16) {
-            return Checked::Refused(Refusal {
-                number: 4,
-                place: 6,
-            });
-        }
-        if !check::in_range(states, false, initial) {
-            return Checked::Refused(Refusal {
-                number: 4,
-                place: 7,
-            });
-        }
-        if !check::in_range(states, true, tree_start) {
-            return Checked::Refused(Refusal {
-                number: 4,
-                place: 8,
-            });
-        }
-        if !check::from_one_to(Self::MOST_LETTERS, letters) {
-            return Checked::Refused(Refusal {
-                number: 4,
-                place: 9,
-            });
+        if let Outcome::Refused(refusal) = check::numbers_check(
+            states,
+            initial,
+            tree_start,
+            letters,
+        ) {
+            return Checked::Refused(refusal);
         }
         Checked::Fine(Rule {
             states,

@@ -1,9 +1,8 @@
 // The writer: the numbers and tables of a rule, laid into a lent output as the bytes of its file.
-use crate::Checked;
-use crate::Rule;
 use crate::Written;
 use crate::check::CLASSES;
 use crate::check::Outcome;
+use crate::check::numbers_check;
 use crate::check::refuse;
 use crate::check::table_check;
 use crate::layout::LETTER_RECORD;
@@ -15,7 +14,7 @@ ghost use mathlib.Core.Path.{_≡_};
 ghost use Prim.Native.Nat.{_+_, _≤_, _%_};
 ghost use lib.ListN.{length};
 ghost use mathlib.Core.List.{[], _++_};
-ghost use Rattle.meaning.specs.RuleFile.{numbersBody, recordBytes, ruleBytes, writeCheck, outputAfter};
+ghost use Rattle.meaning.specs.RuleFile.{numbersBody, recordBytes, writeCheck, outputAfter};
 ghost use Rattle.rule.specs.Says.{writtenSays};
 ghost use Rattle.rule.specs.Checks.{outcomeSays, ruleFrom, givenCheck};
 ghost use Rattle.rule.specs.Laid.{laid, headerBytes};
@@ -142,7 +141,7 @@ fn write_check(
 ) -> Written
     ensures { λ r. ⌜ writtenSays r ≡ writeCheck (ruleFrom states initial «tree_start» letters (now («letter_moves» .entry)) (now («tree_moves» .entry)) (now (classes .entry))) room ⌝ }
 {
-    if let Checked::Refused(refusal) = Rule::of_numbers(states, initial, tree_start, letters) {
+    if let Outcome::Refused(refusal) = numbers_check(states, initial, tree_start, letters) {
         return Written::Refused(refusal);
     }
     if let Outcome::Refused(refusal) = given_check(

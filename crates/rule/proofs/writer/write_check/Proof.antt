@@ -10,14 +10,14 @@ use Rattle.meaning.specs.Calls.{refusalSays}
 use Rattle.meaning.proofs.Answered.{refuse-passes, refuse-stops}
 use Rattle.rule.specs.Says.{writtenSays}
 use Rattle.rule.specs.Checks.{ruleFrom, givenCheck}
-use Rattle.rule.proofs.Outcomes.{passes-rest, refused-rest, fine-rest, numbers-refused}
+use Rattle.rule.proofs.Outcomes.{passes-rest, refused-rest}
 use Rattle.rule.proofs.Stages.{afterGiven, write-stages}
 use borrow.Author.Needs.{needs}
 use Rattle.rule.proofs.writer.write_check.Statement.{statement}
 use Rattle.rule.proofs.writer.write_check.Tie as tie
 
-of-numbers-requires : tie.Need-of-numbers-requires
-of-numbers-requires c κs = search needs
+numbers-check-requires : tie.Need-numbers-check-requires
+numbers-check-requires c κs = search needs
 
 enum-known-refusal : tie.Need-enum-known-refusal
 enum-known-refusal c = search needs
@@ -28,7 +28,7 @@ returns c =
     let a = c .before .before .before .before .before .before .before .args in
     let R = ruleFrom (a .states) (a .initial) (a .tree-start) (a .letters) (now (a .letter-moves)) (now (a .tree-moves)) (now (a .classes)) in
     let stages = write-stages R (a .room) in
-    sym (stages ∙ numbers-refused (c .before .before .before .of-numbers .ensures) _ (c .before .refusal .given .1))
+    sym (stages ∙ refused-rest (c .before .before .before .numbers-check .ensures) (c .before .refusal .given .1) _)
 
 enum-told : tie.Need-enum-told
 enum-told c = search needs
@@ -45,7 +45,7 @@ returns-2 c =
     let a = c .before .before .before .before .before .before .before .before .before .before .args in
     let R = ruleFrom (a .states) (a .initial) (a .tree-start) (a .letters) (now (a .letter-moves)) (now (a .tree-moves)) (now (a .classes)) in
     let stages = write-stages R (a .room) in
-    sym (stages ∙ fine-rest (c .before .before .before .before .before .before .of-numbers .ensures) _ (c .before .before .before .before .enum-told .given .1)
+    sym (stages ∙ passes-rest (c .before .before .before .before .before .before .numbers-check .ensures) _ (c .before .before .before .before .enum-told .given .1)
     ∙ refused-rest (c .before .before .before .given-check .ensures) (c .before .refusal2 .given .1) _)
 
 enum-told-2 : tie.Need-enum-told-2
@@ -61,7 +61,7 @@ returns-3 c =
     let R = ruleFrom (a .states) (a .initial) (a .tree-start) (a .letters) (now (a .letter-moves)) (now (a .tree-moves)) (now (a .classes)) in
     let stages = write-stages R (a .room) in
     ap (refused 14) (c .before .of .ensures .count)
-    ∙ sym (stages ∙ fine-rest (c .before .before .before .before .before .before .before .of-numbers .ensures) _ (c .before .before .before .before .before .enum-told .given .1)
+    ∙ sym (stages ∙ passes-rest (c .before .before .before .before .before .before .before .numbers-check .ensures) _ (c .before .before .before .before .before .enum-told .given .1)
     ∙ passes-rest (c .before .before .before .before .given-check .ensures) _ (c .before .before .enum-told2 .given .1)
     ∙ refuse-stops 14 _ _ (lt-ltb (a .room) (fileLength (a .states) (a .letters)) (omega arith)))
 
@@ -72,7 +72,7 @@ returns-4 c =
     let R = ruleFrom (a .states) (a .initial) (a .tree-start) (a .letters) (now (a .letter-moves)) (now (a .tree-moves)) (now (a .classes)) in
     let stages = write-stages R (a .room) in
     ap given (c .before .of .ensures .count)
-    ∙ sym (stages ∙ fine-rest (c .before .before .before .before .before .before .before .of-numbers .ensures) _ (c .before .before .before .before .before .enum-told .given .1)
+    ∙ sym (stages ∙ passes-rest (c .before .before .before .before .before .before .before .numbers-check .ensures) _ (c .before .before .before .before .before .enum-told .given .1)
     ∙ passes-rest (c .before .before .before .before .given-check .ensures) _ (c .before .before .enum-told2 .given .1)
     ∙ refuse-passes 14 _ _ (le-ltb (a .room) (fileLength (a .states) (a .letters)) (omega arith)))
 
@@ -80,7 +80,7 @@ pub write-check-spec : {M : Type 1} → statement M
 write-check-spec =
     tie.close
     (tie.spec
-    of-numbers-requires
+    numbers-check-requires
     enum-known-refusal
     returns
     enum-told
