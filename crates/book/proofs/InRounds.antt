@@ -2,7 +2,7 @@
 -- changes no word adds nothing, and no round after it changes the word.
 use mathlib.Core.Path.{_≡_, refl, sym, ap, _∙_}
 use mathlib.Core.Logic.{⊎-elim}
-use mathlib.Core.Bool.{Bool, true, false, not, _&&_, _||_}
+use mathlib.Core.Bool.{Bool, true, false, not, _&&_}
 use mathlib.Core.List.{List}
 use Prim.Native.Nat.{ℕ, zero, suc, _+_, _^_, _≤_, _<_}
 use native.Mathlib.Decide.{le-ind}
@@ -13,11 +13,11 @@ use lib.Pow.{pow-lt}
 use borrow.Author.Tests.{eqb-true, eq-eqb}
 use Rattle.meaning.specs.Answers.{_=?_}
 use Rattle.meaning.specs.RuleFile.{Rule, IsRule}
-use Rattle.meaning.specs.SkipBook.{itself, anyBelow, marked, oneMove, round, onlyState, reachedIn, adds, roundsUsedUp, wordOf, bit}
+use Rattle.meaning.specs.SkipBook.{itself, marked, oneMove, round, onlyState, reachedIn, adds, roundsUsedUp, wordOf, bit}
 use Rattle.meaning.proofs.Answered.{and-true, both-true}
 use Rattle.meaning.proofs.Marks.{truth, same-truth, or-true, or-left, or-right, any-at, any-some, any-none, any-false, never-both}
 use Rattle.meaning.proofs.Rounds.{most-states, reach-below, one-reaches, round-keeps, round-adds, round-true, round-same, round-length, nothing-added, marked-reached, next-round, first-round, only-true, only-start, only-length}
-use Rattle.meaning.proofs.Bits.{bit-word, bit-past, word-of, same-bits}
+use Rattle.meaning.proofs.Bits.{bit-word, word-of}
 use Rattle.book.proofs.Standing.{stands-as, stands-only, stands-word}
 use Rattle.book.specs.Sets.{StandsFor, Moves, joined, reachedWord, Reached}
 

@@ -1,3 +1,4 @@
+-- The laws that the proofs of the maker cite: sets as words, the tables walked, rounds, the words of the book, the answers.
 pub mod Standing
 pub mod Walked
 pub mod InRounds

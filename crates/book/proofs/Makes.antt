@@ -1,14 +1,13 @@
 -- What the maker answers for an accepted file, case by case, and that its listing is one-to-one, so that two answers that the
 -- contract allows agree.
-use mathlib.Core.Path.{_≡_, refl, sym, ap, _∙_}
+use mathlib.Core.Path.{_≡_, sym, ap, _∙_}
 use mathlib.Core.Bool.{true, false}
 use mathlib.Core.List.{List, _++_}
 use Prim.Native.Nat.{ℕ, _+_, _≤_, _<_}
-use native.Mathlib.Omega.{arith}
 use lib.ListN.{length, drop}
 use lib.Count.{ones}
 use borrow.Author.Tests.{lt-ltb, le-ltb}
-use Rattle.meaning.specs.Answers.{Answer, given, refused, _<?_, refuse_at_when_otherwise_, _giving_}
+use Rattle.meaning.specs.Answers.{Answer, given, refused, refuse_at_when_otherwise_}
 use Rattle.meaning.specs.RuleFile.{Rule, checkRule, ruleOf}
 use Rattle.meaning.specs.SkipBook.{roundsUsedUp, stillMarks, wordOf, bookOf, makeBook, bookAfter}
 use Rattle.meaning.specs.Calls.{refusalSays}

@@ -1,10 +1,10 @@
 -- Laws of words that stand for sets: the empty set, one member, the join of two, the join of one more, and the set without
 -- its lowest member. Each is a law of bits said of all 64.
 use mathlib.Core.Path.{_≡_, refl, sym, ap, ap₂, _∙_, subst}
-use mathlib.Core.Logic.{_⊎_, inl, inr, ⊎-elim}
+use mathlib.Core.Logic.{⊎-elim}
 use mathlib.Core.Bool.{Bool, true, false, not, _&&_, _||_, false≢true}
 use mathlib.Core.List.{List}
-use Prim.Native.Nat.{ℕ, zero, suc, _+_, _-_, _^_, _≤_, _<_}
+use Prim.Native.Nat.{ℕ, _+_, _-_, _^_, _≤_, _<_}
 use native.Mathlib.Nat.{not-suc-le-zero}
 use native.Mathlib.Omega.{arith}
 use native.Mathlib.Numerals.{add-one}
@@ -143,10 +143,10 @@ turn-next table set all rest pos t =
     record {
       small = omega (arith, cleared-less rest pos, t .small);
       same = λ p l. let left : Bool = anyBelow 64 (λ m. bit (bitAnd rest (rest - 1)) m && bit (getD table m 0) p) in
-      ap (λ (b : Bool). b || left) (bit-or all (getD table (trailingZeros 64 rest) 0) p)
-      ∙ or-assoc (bit all p) (bit (getD table (trailingZeros 64 rest) 0) p) left
-      ∙ ap (λ (b : Bool). bit all p || b) (sym (lowest-first rest pos (t .small) (λ m. bit (getD table m 0) p)))
-      ∙ t .same p l;
+          ap (λ (b : Bool). b || left) (bit-or all (getD table (trailingZeros 64 rest) 0) p)
+          ∙ or-assoc (bit all p) (bit (getD table (trailingZeros 64 rest) 0) p) left
+          ∙ ap (λ (b : Bool). bit all p || b) (sym (lowest-first rest pos (t .small) (λ m. bit (getD table m 0) p)))
+          ∙ t .same p l;
     }
 
 pub turn-last : (table : List ℕ) (set all rest : ℕ) → rest ≡ 0 → Turn table set all rest → StandsFor all (joined table set)

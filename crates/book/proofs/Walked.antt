@@ -1,17 +1,17 @@
 -- The tables of an accepted file, walked: each byte that is read is the rule's move, so the words that are joined stand for
 -- the states one move away.
-use mathlib.Core.Path.{_≡_, refl, sym, ap, ap₂, _∙_, subst}
+use mathlib.Core.Path.{_≡_, sym, ap, ap₂, _∙_}
 use mathlib.Core.Logic.{⊎-elim}
-use mathlib.Core.Bool.{Bool, true, false, not, _&&_, _||_}
+use mathlib.Core.Bool.{Bool, true, false, not, _&&_}
 use mathlib.Core.List.{List}
-use Prim.Native.Nat.{ℕ, zero, suc, _+_, _^_, _≤_, _<_}
+use Prim.Native.Nat.{ℕ, _+_, _^_, _≤_, _<_}
 use native.Mathlib.Omega.{arith}
 use lib.Bits.{bitOr}
 use borrow.Author.Tests.{eqb-true, ne-eqb}
 use Rattle.meaning.specs.Answers.{_=?_}
 use Rattle.meaning.specs.RuleFile as format
 use Rattle.meaning.specs.RuleFile.{Move, to, noMove, none, asMove, letterMove, treeMove, ruleOf}
-use Rattle.meaning.specs.SkipBook.{anyBelow, goesTo, noneOr, canEndTree}
+use Rattle.meaning.specs.SkipBook.{anyBelow, goesTo, noneOr}
 use Rattle.meaning.proofs.Answered.{if-true, if-false}
 use Rattle.meaning.proofs.Marks.{truth, any-same}
 use Rattle.meaning.proofs.Rounds.{counts, most-states}

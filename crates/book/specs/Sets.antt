@@ -1,10 +1,10 @@
 -- What the parts of the maker work on: words that stand for sets of states.
 use mathlib.Core.Path.{_≡_}
-use mathlib.Core.Bool.{Bool, true, false, not, _&&_, _||_}
+use mathlib.Core.Bool.{Bool, not, _&&_, _||_}
 use mathlib.Core.List.{List}
 use Prim.Native.Nat.{ℕ, _<_}
 use lib.ListN.{getD}
-use Rattle.meaning.specs.Answers.{Answer, given, _<?_}
+use Rattle.meaning.specs.Answers.{given, _<?_}
 use Rattle.meaning.specs.RuleFile as format
 use Rattle.meaning.specs.RuleFile.{ruleOf, checkRule, letterMove, treeMove}
 use Rattle.meaning.specs.SkipBook.{anyBelow, goesTo, canEndTree, noneOr, oneMove, reachedIn, holdMarks, wordOf, bit}

@@ -5,7 +5,8 @@ mod sets;
 mod words;
 
 use meaning::Refusal;
-use rule::{Checked, Rule};
+use rule::Checked;
+use rule::Rule;
 ghost use mathlib.Core.Path.{_≡_};
 ghost use Rattle.meaning.specs.RuleFile.{ruleOf};
 ghost use Rattle.meaning.specs.SkipBook.{makeBook, bookAfter};

@@ -1,19 +1,21 @@
-// The moves of a rule as sets of states: each table is walked once.
+// The moves of a rule as sets of states: the tables are walked here, and nowhere else.
+use crate::sets::no_sets;
+use crate::sets::only;
+use crate::sets::with;
 use rule::Rule;
-use crate::sets::{no_sets, only, with};
 ghost use mathlib.Core.Path.{_≡_};
+ghost use mathlib.Core.Bool.{not};
 ghost use Prim.Native.Nat.{_<_};
 ghost use Rattle.meaning.specs.RuleFile.{asMove, ruleOf};
-ghost use mathlib.Core.Bool.{not};
 ghost use Rattle.meaning.specs.SkipBook.{goesTo, noneOr, oneMove};
 ghost use Rattle.book.specs.Sets.{StandsFor, Accepted, Moves, byLetters, byTrees, changing};
 
 // The state that a move leads to, as a set: empty where there is none.
-fn target(place: u8) -> u64
-    ensures { λ r. ⌜ StandsFor r (λ p. goesTo p (asMove place)) ⌝ }
+fn target(byte: u8) -> u64
+    ensures { λ r. ⌜ StandsFor r (λ p. goesTo p (asMove byte)) ⌝ }
 {
-    if place < Rule::MOST_STATES {
-        only(place)
+    if byte < Rule::MOST_STATES {
+        only(byte)
     } else {
         0
     }
@@ -74,10 +76,10 @@ pub fn all_moves(file: &[u8], rule: Rule) -> [u64; 64]
 }
 
 // Whether a tree move leads from its upper state to another one.
-fn changed(place: u8, upper: u8) -> bool
-    ensures { λ r. ⌜ r ≡ not (noneOr upper (asMove place)) ⌝ }
+fn changed(byte: u8, upper: u8) -> bool
+    ensures { λ r. ⌜ r ≡ not (noneOr upper (asMove byte)) ⌝ }
 {
-    place != Rule::NONE && place != upper
+    byte != Rule::NONE && byte != upper
 }
 
 // The lower states whose tree move leads from an upper state to another one.
@@ -89,8 +91,8 @@ pub fn changes(file: &[u8], rule: Rule, upper: u8) -> u64
     let mut set: u64 = 0;
     let mut lower: u8 = 0;
     while lower < rule.states {
-        let place = rule::tables::tree_move(file, rule, upper, lower);
-        set = with(set, lower, changed(place, upper));
+        let byte = rule::tables::tree_move(file, rule, upper, lower);
+        set = with(set, only(lower), changed(byte, upper));
         lower += 1;
     }
     set

@@ -1,5 +1,7 @@
 // Reach in rounds: each round adds all states one move away. The tables are not walked here.
-use crate::sets::{no_sets, only, with_members};
+use crate::sets::no_sets;
+use crate::sets::only;
+use crate::sets::with_members;
 ghost use mathlib.Core.Path.{_≡_};
 ghost use Prim.Native.Nat.{_<_, _≤_};
 ghost use Rattle.meaning.specs.RuleFile.{Rule, IsRule};

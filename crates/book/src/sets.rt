@@ -20,16 +20,11 @@ pub fn no_sets() -> [u64; 64]
     [0; 64]
 }
 
-// One turn of gathering the states that pass a test: a set of those below a state, and that state if it is a member.
-pub fn with(set: u64, state: u8, member: bool) -> u64
-    requires { ⌜ state < 64 ⌝ }
-    ensures { λ r. ⌜ ((test : ℕ → Bool) → test state ≡ member → StandsFor set (firstOf state test) → StandsFor r (firstOf (state + 1) test)) ⌝ }
+// One turn of gathering the states that pass a test: a set of those below a state, and that state's own set if it is a member.
+pub fn with(set: u64, own: u64, member: bool) -> u64
+    ensures { λ r. ⌜ ((test : ℕ → Bool) (state : ℕ) → own ≡ 2 ^ state → test state ≡ member → StandsFor set (firstOf state test) → StandsFor r (firstOf (state + 1) test)) ⌝ }
 {
-    if member {
-        set | only(state)
-    } else {
-        set
-    }
+    if member { set | own } else { set }
 }
 
 // The set, and with it all states that the table has for a member.

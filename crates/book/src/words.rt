@@ -1,7 +1,9 @@
 // The words of the book: still, hold(u) for each state u, and how they are written.
-use rule::Rule;
 use crate::moves::changes;
-use crate::sets::{no_sets, only, with};
+use crate::sets::no_sets;
+use crate::sets::only;
+use crate::sets::with;
+use rule::Rule;
 ghost use mathlib.Core.Path.{_≡_};
 ghost use mathlib.Core.List.{_∷_, _++_};
 ghost use Prim.Native.Nat.{_+_, _^_, _≤_, _<_};
@@ -21,7 +23,8 @@ fn still_word(reach: &[u64; 64], states: u8) -> u64
     let mut set: u64 = 0;
     let mut state: u8 = 0;
     while state < states {
-        set = with(set, state, reach[state as usize] == only(state));
+        let own = only(state);
+        set = with(set, own, reach[state as usize] == own);
         state += 1;
     }
     set
@@ -35,7 +38,8 @@ fn hold_word(reach: &[u64; 64], states: u8, change: u64) -> u64
     let mut set: u64 = 0;
     let mut state: u8 = 0;
     while state < states {
-        set = with(set, state, reach[state as usize] & change == 0);
+        let own = only(state);
+        set = with(set, own, reach[state as usize] & change == 0);
         state += 1;
     }
     set

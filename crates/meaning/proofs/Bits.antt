@@ -1,6 +1,6 @@
 -- Laws of words and their bits, digit by digit, lowest first: bit 0 is the remainder by 2, and bit p + 1 is bit p of the half.
-use mathlib.Core.Path.{_≡_, refl, sym, ap, ap₂, _∙_, subst}
-use mathlib.Core.Logic.{_⊎_, inl, inr, ⊎-elim}
+use mathlib.Core.Path.{_≡_, refl, sym, ap, ap₂, _∙_}
+use mathlib.Core.Logic.{⊎-elim}
 use mathlib.Core.Bool.{Bool, true, false, not, _&&_, _||_}
 use mathlib.Core.List.{List, [], _∷_}
 use Prim.Native.Nat.{ℕ, zero, suc, _+_, _-_, _*_, _/_, _%_, _^_, _≤_, _<_, min, max}
@@ -16,7 +16,7 @@ use lib.Count.{trailingZeros, under}
 use borrow.Author.Tests.{eqb-true, eqb-false}
 use Rattle.meaning.specs.Answers.{_=?_}
 use Rattle.meaning.specs.SkipBook.{marked, wordOf, bit}
-use Rattle.meaning.proofs.Marks.{truth, same-truth}
+use Rattle.meaning.proofs.Marks.{truth}
 
 -- ---- digit by digit
 

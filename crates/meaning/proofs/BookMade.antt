@@ -1,19 +1,22 @@
 -- The book of a rule is its skip book: its sets are the rule's own still and hold(u). A word has the bits of its marks, the
 -- marks test all of Reach, and where rounds are not used up the marks of Reach are Reach.
-use mathlib.Core.Path.{_≡_, refl, sym, ap, _∙_}
+use mathlib.Core.Path.{_≡_, sym, ap, _∙_, subst}
 use mathlib.Core.Logic.{_↔_}
 use mathlib.Core.Bool.{Bool, true, false, not, _||_}
-use mathlib.Core.List.{List, [], _∷_, _++_}
+use mathlib.Core.List.{List, _++_}
 use Prim.Native.Nat.{ℕ, zero, suc, _+_, _^_, _≤_, _<_}
 use native.Mathlib.Numerals.{one-add, add-one}
-use lib.ListN.{length, getD, List·getD-append}
+use lib.Count.{ones}
+use lib.ListN.{length, getD, drop, List·getD-append}
 use lib.Pow.{pow-pos}
-use borrow.Author.Tests.{eqb-true, eq-eqb}
-use Rattle.meaning.specs.Answers.{_=?_}
-use Rattle.meaning.specs.RuleFile.{Rule, IsRule, treeMove}
-use Rattle.meaning.specs.SkipBook.{Reach, Still, Hold, noneOr, anyBelow, allBelow, listed, marked, adds, reachedIn, reachMarks, roundsUsedUp, stillMarks, holdMarks, wordOf, bit, bookOf, inStill, inHold, IsBook}
+use borrow.Author.Tests.{eqb-true, eq-eqb, le-ltb}
+use Rattle.meaning.specs.Answers.{given, _=?_}
+use Rattle.meaning.specs.RuleFile.{Rule, IsRule, treeMove, checkRule, ruleOf}
+use Rattle.meaning.specs.SkipBook.{Reach, Still, Hold, noneOr, allBelow, listed, marked, adds, reachedIn, reachMarks, roundsUsedUp, stillMarks, holdMarks, wordOf, bit, bookOf, inStill, inHold, IsBook, makeBook, bookAfter}
+use Rattle.meaning.proofs.Answered.{refuse-given, refuse-passes, giving-given, giving-passes}
+use Rattle.meaning.proofs.Accepted.{accepted-rule, accepted-is-rule}
 use Rattle.meaning.proofs.Marks.{implied, implies, any-none, all-at, all-of, listed-length, listed-at, listed-each, marked-below}
-use Rattle.meaning.proofs.Rounds.{reach-below, marks-are-reach}
+use Rattle.meaning.proofs.Rounds.{reach-below, marks-are-reach, never-used-up}
 use Rattle.meaning.proofs.Bits.{bit-word, word-below}
 
 -- ---- the words of the book
@@ -54,8 +57,8 @@ module _ (R : Rule) (rest : List ℕ) where
   in-hold u p h =
       let holds : List ℕ = listed (R .states) (λ v. wordOf (holdMarks R v)) in
       let here : getD (bookOf R ++ rest) (1 + u) 0 ≡ wordOf (holdMarks R u) =
-          ap (λ (i : ℕ). getD (bookOf R ++ rest) i 0) (one-add u)
-          ∙ List·getD-append holds rest 0 u (rw listed-length h) ∙ listed-at (R .states) _ 0 u h in
+      ap (λ (i : ℕ). getD (bookOf R ++ rest) i 0) (one-add u)
+      ∙ List·getD-append holds rest 0 u (rw listed-length h) ∙ listed-at (R .states) _ 0 u h in
       ap (λ (w : ℕ). bit w p) here ∙ bit-word (holdMarks R u) p
 
 module _ (R : Rule) (rule : IsRule R) (fine : roundsUsedUp R ≡ false) where
@@ -92,3 +95,25 @@ module _ (R : Rule) (rule : IsRule R) (fine : roundsUsedUp R ≡ false) where
         stillIs = λ q h. iff (in-still R rest q) (still-is q h);
         holdIs = λ u p hu hp. iff (in-hold R rest u p hu) (hold-is u p hp);
       }
+
+-- ---- the maker
+
+-- what the maker leaves where it gives an answer is the skip book of the file's rule
+pub maker-writes : (file book : List ℕ) {count : ℕ} → makeBook file book ≡ given count
+    → IsBook (ruleOf file) (bookAfter (makeBook file book) (ruleOf file) book)
+unfolding makeBook bookAfter
+maker-writes file book e =
+    let accepted = giving-given (checkRule file) _ e in
+    let room = refuse-given 6 0 _ _ (accepted .2) in
+    let rounds = refuse-given 15 0 _ _ (room .1) in
+    let R : Rule = accepted .0 in
+    subst (λ (S : Rule). IsBook S (bookAfter (makeBook file book) S book)) (sym (accepted-rule file (accepted .1)))
+    (rw (e, bookAfter) (made-is-book R (accepted-is-rule file (accepted .1)) (rounds .0) (drop (R .states + 1) book)))
+
+-- and every accepted file has its book made, where there is room for it
+pub always-made : (file book : List ℕ) {R : Rule} → checkRule file ≡ given R → R .states + 1 ≤ length book
+    → makeBook file book ≡ given (ones (wordOf (stillMarks R)))
+unfolding makeBook
+always-made file book {R} e room =
+    giving-passes _ e ∙ refuse-passes 6 0 _ (le-ltb (length book) (R .states + 1) room)
+    ∙ refuse-passes 15 0 _ (never-used-up R (accepted-is-rule file e))

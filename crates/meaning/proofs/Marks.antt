@@ -1,9 +1,9 @@
 -- Laws of marks: what a test of every number below n says, and what stands in a list of n marks. Whoever uses marks goes by
 -- these and does not open the words.
 use mathlib.Core.Path.{_≡_, refl, sym, ap, ap₂, _∙_}
-use mathlib.Core.Logic.{_⊎_, inl, inr, ⊎-elim, _↔_}
+use mathlib.Core.Logic.{_⊎_, inl, inr, ⊎-elim}
 use mathlib.Core.Bool.{Bool, true, false, not, _&&_, _||_, false≢true}
-use mathlib.Core.List.{List, [], _∷_}
+use mathlib.Core.List.{_∷_}
 use Prim.Native.Nat.{ℕ, zero, suc, _+_, _≤_, _<_, zero-le, suc-le-suc}
 use native.Mathlib.Nat.{not-suc-le-zero, le-of-suc-le-suc, eq-or-lt-of-le, le-step, le-refl}
 use native.Mathlib.Omega.{arith}
@@ -147,6 +147,7 @@ marked-true n f p e = ⊎-elim inside outside (truth (p <? n))
   where
     inside : (p <? n) ≡ true → (p < n) × (f p ≡ true)
     inside t = let h : p < n = ltb-true p n t in (h, sym (marked-below n f p h) ∙ e)
+
     outside : (p <? n) ≡ false → (p < n) × (f p ≡ true)
     outside t = absurd-truth e (marked-past n f p (ltb-false p n t))
 

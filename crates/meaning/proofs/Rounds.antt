@@ -1,17 +1,16 @@
 -- When a round adds nothing, the marks are Reach. What a round marks was marked or is one move away, so what is marked is in
 -- Reach; marks that a round does not add to hold their start and are closed under moves, so they hold all of Reach.
 use mathlib.Core.Path.{_≡_, refl, sym, ap, ap₂, _∙_, subst}
-use mathlib.Core.Logic.{_⊎_, inl, inr, ⊎-elim, _↔_}
+use mathlib.Core.Logic.{⊎-elim, _↔_}
 use mathlib.Core.Bool.{Bool, true, false, not, _&&_, _||_, false≢true}
 use mathlib.Core.List.{List, [], _∷_}
 use Prim.Native.Nat.{ℕ, zero, suc, _*_, _+_, _≤_, _<_, zero-le, suc-le-suc}
-use native.Mathlib.Nat.{not-suc-le-zero, le-of-suc-le-suc}
 use native.Mathlib.Omega.{arith}
 use lib.ListN.{length, getD}
 use borrow.Author.Tests.{ltb-true, lt-ltb, leb-true, eqb-true, eq-eqb, not-true}
 use Rattle.meaning.specs.Answers.{_<?_, _=?_, _≤?_}
 use Rattle.meaning.specs.RuleFile.{Rule, IsRule, Move, noMove, to, none, asMove, letterMove, treeMove, isMove, isState, isStates}
-use Rattle.meaning.specs.SkipBook.{canEndTree, Reach, itself, byLetter, byTree, anyBelow, allBelow, listed, marked, goesTo, oneMove, round, rounds, onlyState, reachedIn, adds, reachMarks, roundsUsedUp}
+use Rattle.meaning.specs.SkipBook.{canEndTree, Reach, itself, byLetter, byTree, anyBelow, marked, goesTo, oneMove, round, rounds, onlyState, reachedIn, adds, reachMarks, roundsUsedUp}
 use Rattle.meaning.proofs.Answered.{if-true, if-false, and-true, both-true}
 use Rattle.meaning.proofs.Marks.{truth, same-truth, or-true, or-left, or-right, absurd-truth, not-without, any-at, any-some, any-none, any-false, any-same, never-both, listed-length, listed-same, marked-below, marked-true, countBelow, count-most, count-less, count-some}
 
@@ -28,6 +27,7 @@ move-to x {q} e = ⊎-elim no-move some (truth (x =? none))
   where
     no-move : (x =? none) ≡ true → ((x =? none) ≡ false) × (x ≡ q)
     no-move t = let z : _≡_ {A = ℕ} 0 1 = cc (if-true noMove (to x) t) in absurd (omega arith)
+
     some : (x =? none) ≡ false → ((x =? none) ≡ false) × (x ≡ q)
     some f = (f, cc (if-false noMove (to x) f))
 
@@ -53,7 +53,6 @@ pub goes-true : (p : ℕ) (m : Move) → goesTo p m ≡ true → m ≡ to p
 unfolding goesTo
 goes-true p noMove e = absurd (false≢true e)
 goes-true p (to q) e = ap to (eqb-true q p e)
-
 
 -- ---- one move
 
@@ -85,6 +84,7 @@ module _ (R : Rule) where
     where
       byLetters : anyBelow (R .letters) (λ a. goesTo p′ (letterMove R p a)) ≡ true → Reach R q p′
       byLetters t = let s = any-some (R .letters) _ t in byLetter (s .0) r (s .1) (goes-true p′ _ (s .2))
+
       byTrees : anyBelow (R .states) (λ lower. canEndTree R lower && goesTo p′ (treeMove R p lower)) ≡ true → Reach R q p′
       byTrees t =
           let s = any-some (R .states) _ t in
@@ -199,7 +199,7 @@ module _ (R : Rule) where
   marks-are-reach rule q h e p = (
     marked-reached 64 q p,
     λ r. rw (next-round 63 q) (round-keeps (reachedIn R 63 q) p (reach-below rule h r)
-    (reached-marked rule q (reachedIn R 63 q) h (start-marked 63 q h) (rw (next-round 63 q) at e) r)),
+        (reached-marked rule q (reachedIn R 63 q) h (start-marked 63 q h) (rw (next-round 63 q) at e) r)),
   )
 
   -- ---- rounds are never used up: each round before the last adds one of at most 64 states
@@ -247,7 +247,7 @@ module _ (R : Rule) where
   many-marked (suc i) q h e =
       let r : List Bool = reachedIn R i q in
       let added : adds R r (reachedIn R (suc i) q) ≡ true =
-          ⊎-elim (λ t. t) (λ f. absurd-truth e (rests i q f)) (truth (adds R r (reachedIn R (suc i) q))) in
+      ⊎-elim (λ t. t) (λ f. absurd-truth e (rests i q f)) (truth (adds R r (reachedIn R (suc i) q))) in
       let more = adds-more (reachedIn R (suc i) q) (rw (next-round (suc i) q) at e) in
       rw (next-round (suc i) q) (omega (arith, many-marked i q h added, more))
 

@@ -29,7 +29,7 @@ unfolding madeSays refusalSays
 returns c =
     let start = c .before .before .before .before .before .before in
     let stopped = check-refused (now (start .args .file)) (now (start .args .book))
-        (refused-check _ _ (ap checkedSays (sym (c .before .refusal .given .1)) ∙ c .before .before .before .of-file .ensures)) in
+    (refused-check _ _ (ap checkedSays (sym (c .before .refusal .given .1)) ∙ c .before .before .before .of-file .ensures)) in
     (sym stopped, after-refused _ _ _ stopped)
 
 same-length : tie.Need-same-length

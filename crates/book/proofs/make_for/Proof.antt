@@ -2,9 +2,8 @@
 -- the words of all rounds before the last are Reach. Assumes nothing.
 use borrow.Author.Needs.{needs}
 use mathlib.Core.Path.{_≡_, sym, ap, _∙_}
-use mathlib.Core.Bool.{true, false}
-use mathlib.Core.List.{List, _++_}
-use Prim.Native.Nat.{ℕ, _+_, _≤_, _<_}
+use mathlib.Core.List.{_++_}
+use Prim.Native.Nat.{ℕ, _+_, _≤_}
 use native.Mathlib.Omega.{arith}
 use denote.Ref.{now}
 use lib.ListN.{length, drop}
@@ -84,11 +83,10 @@ returns-3 c =
     let last = c .before .before .before .before .before .before in
     let start = last .before .before .before .before .before .before .before .before .before in
     let R : format.Rule = ruleOf (now (start .args .file)) in
-    let made = book-made _ (now (start .args .book)) (start .pre .passed) (room (last .before .before .before .before .before .before)) (sym (added last) ∙ c .before .before .before .before .before .if2 .left) in
-    (
+    let made = book-made _ (now (start .args .book)) (start .pre .passed) (room (last .before .before .before .before .before .before)) (sym (added last) ∙ c .before .before .before .before .before .if2 .left) in (
       ap given (written .ensures .0) ∙ sym made,
       written .ensures .1 ∙ ap (λ (n : ℕ). bookOf R ++ drop (n + 1) (now (start .args .book))) (sym (states-are (start .pre)))
-      ∙ sym (after-given _ R (now (start .args .book)) made),
+          ∙ sym (after-given _ R (now (start .args .book)) made),
     )
 
 pub make-for-spec : {M : Type 1} → statement M

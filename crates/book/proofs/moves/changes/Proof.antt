@@ -26,11 +26,14 @@ loop-holds c = (omega arith, gather-first _)
 tree-move-requires : tie.Need-tree-move-requires Inv-loop μ-loop
 tree-move-requires c κs = search needs
 
+only-requires : tie.Need-only-requires Inv-loop μ-loop
+only-requires c κs = omega (arith, few-states (c .before .before .before .before .before .pre .0))
+
 changed-requires : tie.Need-changed-requires Inv-loop μ-loop
 changed-requires c κs = search needs
 
 with-requires : tie.Need-with-requires Inv-loop μ-loop
-with-requires c κs = omega (arith, few-states (c .before .before .before .before .before .before .pre .0))
+with-requires c κs = search needs
 
 add-lower : tie.Need-add-lower Inv-loop μ-loop
 add-lower c = omega arith
@@ -40,11 +43,13 @@ loop-less c = omega arith
 
 loop-again : tie.Need-loop-again Inv-loop μ-loop
 loop-again c =
-    let start = c .before .before .before .before .before .before .before in
-    let loop = c .before .before .before .before .before .loop in
+    let start = c .before .before .before .before .before .before .before .before in
+    let loop = c .before .before .before .before .before .before .loop in
     let u : ℕ = start .args .upper in
-    let move = ap asMove (c .before .before .tree-move .ensures) ∙ tree-is (start .pre .0) u (loop .lower) (start .pre .1) (c .before .before .before .if1 .taken) in
-    (omega arith, c .with .ensures _ (sym (c .before .changed .ensures ∙ ap (λ m. not (noneOr u m)) move)) (loop .inv .1))
+    let move = ap asMove (c .before .before .before .tree-move .ensures) ∙ tree-is (start .pre .0) u (loop .lower) (start .pre .1) (c .before .before .before .before .if1 .taken) in (
+      omega arith,
+      c .with .ensures _ (loop .lower) (c .before .before .only .ensures) (sym (c .before .changed .ensures ∙ ap (λ m. not (noneOr u m)) move)) (loop .inv .1),
+    )
 
 returns : tie.Need-returns Inv-loop μ-loop
 returns c =
@@ -61,6 +66,7 @@ changes-spec =
     μ-loop
     loop-holds
     tree-move-requires
+    only-requires
     changed-requires
     with-requires
     add-lower

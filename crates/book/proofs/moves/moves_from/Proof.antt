@@ -1,7 +1,6 @@
 -- `book::moves::moves_from` meets its contract: one move is a letter move or a tree move.
 -- Assumes nothing.
 use borrow.Author.Needs.{needs}
-use Rattle.meaning.specs.RuleFile.{ruleOf}
 use Rattle.meaning.specs.SkipBook.{oneMove}
 use Rattle.book.specs.Sets.{byLetters, byTrees}
 use Rattle.book.proofs.Standing.{stands-or}

@@ -9,10 +9,10 @@ only-requires : tie.Need-only-requires
 only-requires c κs = search needs
 
 returns : tie.Need-returns
-returns c = target-some (c .before .before .args .place) (c .only .result) (c .only .ensures)
+returns c = target-some (c .before .before .args .byte) (c .only .result) (c .only .ensures)
 
 returns-2 : tie.Need-returns-2
-returns-2 c = target-none (c .before .args .place) (c .if1 .left)
+returns-2 c = target-none (c .before .args .byte) (c .if1 .left)
 
 pub target-spec : {M : Type 1} → statement M
 target-spec = tie.close (tie.spec only-requires returns returns-2)

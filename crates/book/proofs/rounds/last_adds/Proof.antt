@@ -3,7 +3,7 @@
 use borrow.Author.Needs.{needs}
 use borrow.Author.Count.{below-none, below-more}
 use mathlib.Core.Path.{sym}
-use mathlib.Core.Bool.{true, false}
+use mathlib.Core.Bool.{false}
 use Prim.Native.Nat.{ℕ, _≤_, _<_, _-_}
 use native.Mathlib.Omega.{arith}
 use denote.Ref.{now}
@@ -53,9 +53,11 @@ loop-again : tie.Need-loop-again Inv-loop μ-loop
 loop-again c =
     let loop = c .before .before .before .before .loop in
     let round = c .before .with-members in
-    let args = c .before .before .before .before .before .args in
-    (omega arith, below-more (λ q. LastAdds (now (args .moves)) (now (args .reach)) q false) (loop .state) (loop .inv .1)
-    (last-same _ _ (loop .state) (round .result) (round .ok) (round .ensures) (c .if1 .left)))
+    let args = c .before .before .before .before .before .args in (
+      omega arith,
+      below-more (λ q. LastAdds (now (args .moves)) (now (args .reach)) q false) (loop .state) (loop .inv .1)
+          (last-same _ _ (loop .state) (round .result) (round .ok) (round .ensures) (c .if1 .left)),
+    )
 
 returns-2 : tie.Need-returns-2 Inv-loop μ-loop
 unfolding roundsUsedUp

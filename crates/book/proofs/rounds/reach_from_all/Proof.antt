@@ -1,7 +1,7 @@
 -- `book::rounds::reach_from_all` meets its contract. The loop's invariant: the table has its word for each state so far.
 -- Assumes nothing.
 use borrow.Author.Needs.{needs}
-use Prim.Native.Nat.{_≤_, _<_, _-_}
+use Prim.Native.Nat.{_≤_, _-_}
 use native.Mathlib.Omega.{arith}
 use Rattle.book.specs.Sets.{Reached}
 use Rattle.book.proofs.Standing.{Filled, filled-first, filled-next}

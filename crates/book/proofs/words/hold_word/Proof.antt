@@ -2,7 +2,7 @@
 -- has no state of the change. Assumes nothing.
 use borrow.Author.Needs.{needs}
 use mathlib.Core.Path.{_≡_, refl}
-use Prim.Native.Nat.{ℕ, _≤_, _-_}
+use Prim.Native.Nat.{_≤_, _-_}
 use native.Mathlib.Omega.{arith}
 use lib.Bits.{bitAnd}
 use lib.ListN.{getD}
@@ -22,6 +22,9 @@ abbrev μ-loop : tie.MeasureT-loop
 loop-holds : tie.Need-loop-holds Inv-loop μ-loop
 loop-holds c = (omega arith, gather-first _)
 
+only-requires : tie.Need-only-requires Inv-loop μ-loop
+only-requires c κs = omega arith
+
 cast-with : tie.Need-cast-with Inv-loop μ-loop
 cast-with c = omega arith
 
@@ -32,7 +35,7 @@ element-copy-out-with : tie.Need-element-copy-out-with Inv-loop μ-loop
 element-copy-out-with c = omega arith
 
 with-requires : tie.Need-with-requires Inv-loop μ-loop
-with-requires c κs = omega arith
+with-requires c κs = search needs
 
 add-state : tie.Need-add-state Inv-loop μ-loop
 add-state c = omega arith
@@ -41,7 +44,9 @@ loop-less : tie.Need-loop-less Inv-loop μ-loop
 loop-less c = omega arith
 
 loop-again : tie.Need-loop-again Inv-loop μ-loop
-loop-again c = (omega arith, c .with .ensures _ refl (c .before .before .before .loop .inv .1))
+loop-again c =
+    let loop = c .before .before .before .before .loop in
+    (omega arith, c .with .ensures _ (loop .state) (c .before .before .only .ensures) refl (loop .inv .1))
 
 returns : tie.Need-returns Inv-loop μ-loop
 returns c =
@@ -56,6 +61,7 @@ hold-word-spec =
     Inv-loop
     μ-loop
     loop-holds
+    only-requires
     cast-with
     mul-with
     element-copy-out-with

@@ -59,9 +59,11 @@ loop-again c =
     let loop = c .before .before .before .loop in
     let start = c .before .before .before .before .before .before in
     let rule = accepted-is-rule _ (start .pre .passed) in
-    let gathered = rw (sym (states-are (start .pre))) at (c .hold-word .ensures) in
-    (omega arith, filled-next _ _ _ _ (below c) (loop .inv .1) (λ reached.
-    hold-is-word _ rule _ reached (c .hold-word .result) (c .hold-word .ok) (loop .upper) (c .before .changes .result) (c .before .changes .ensures) gathered))
+    let gathered = rw (sym (states-are (start .pre))) at (c .hold-word .ensures) in (
+      omega arith,
+      filled-next _ _ _ _ (below c) (loop .inv .1) (λ reached.
+          hold-is-word _ rule _ reached (c .hold-word .result) (c .hold-word .ok) (loop .upper) (c .before .changes .result) (c .before .changes .ensures) gathered),
+    )
 
 returns : tie.Need-returns Inv-loop μ-loop
 unfolding Holds

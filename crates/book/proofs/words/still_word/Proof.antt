@@ -22,6 +22,9 @@ abbrev μ-loop : tie.MeasureT-loop
 loop-holds : tie.Need-loop-holds Inv-loop μ-loop
 loop-holds c = (omega arith, gather-first _)
 
+only-requires : tie.Need-only-requires Inv-loop μ-loop
+only-requires c κs = omega arith
+
 cast-with : tie.Need-cast-with Inv-loop μ-loop
 cast-with c = omega arith
 
@@ -31,11 +34,8 @@ mul-with c = omega arith
 element-copy-out-with : tie.Need-element-copy-out-with Inv-loop μ-loop
 element-copy-out-with c = omega arith
 
-only-requires : tie.Need-only-requires Inv-loop μ-loop
-only-requires c κs = omega arith
-
 with-requires : tie.Need-with-requires Inv-loop μ-loop
-with-requires c κs = omega arith
+with-requires c κs = search needs
 
 add-state : tie.Need-add-state Inv-loop μ-loop
 add-state c = omega arith
@@ -47,7 +47,8 @@ loop-again : tie.Need-loop-again Inv-loop μ-loop
 loop-again c =
     let loop = c .before .before .before .before .loop in
     let reach = c .before .before .before .before .before .args .reach in
-    (omega arith, c .with .ensures _ (ap (λ (w : ℕ). getD (now reach) (loop .state) 0 =? w) (sym (c .before .only .ensures))) (loop .inv .1))
+    let own = c .before .before .only .ensures in
+    (omega arith, c .with .ensures _ (loop .state) own (ap (λ (w : ℕ). getD (now reach) (loop .state) 0 =? w) (sym own)) (loop .inv .1))
 
 returns : tie.Need-returns Inv-loop μ-loop
 returns c =
@@ -62,10 +63,10 @@ still-word-spec =
     Inv-loop
     μ-loop
     loop-holds
+    only-requires
     cast-with
     mul-with
     element-copy-out-with
-    only-requires
     with-requires
     add-state
     loop-less

@@ -42,14 +42,13 @@ returns c =
     let still = c .before .before .before .before .before .before .still-word in
     let holds = c .before .before .before .before .before .hold-words in
     let word : still .result ≡ wordOf (stillMarks R) =
-        still-is-word R rule _ reached (still .result) (still .ok) (rw (sym (states-are ok)) at (still .ensures)) in
+    still-is-word R rule _ reached (still .result) (still .ok) (rw (sym (states-are ok)) at (still .ensures)) in
     let rest : List ℕ = drop (start .args .rule .states + 1) (now (start .args .book)) in
-    let long : R .states ≤ length (holds .result) = omega (arith, most-states rule, holds .ensures .0) in
-    (
+    let long : R .states ≤ length (holds .result) = omega (arith, most-states rule, holds .ensures .0) in (
       ap ones word,
       c .before .before .write-words .ensures
-      ∙ ap (λ (n : ℕ). still .result ∷ (take n (holds .result) ++ rest)) (sym (states-are ok))
-      ∙ book-written R (still .result) (holds .result) rest word long (holds .ensures .1 reached),
+          ∙ ap (λ (n : ℕ). still .result ∷ (take n (holds .result) ++ rest)) (sym (states-are ok))
+          ∙ book-written R (still .result) (holds .result) rest word long (holds .ensures .1 reached),
     )
 
 pub write-book-spec : {M : Type 1} → statement M

@@ -1,6 +1,5 @@
 -- `book::words::write_words` meets its contract. The loop's invariant: the hold words so far are copied in after still.
 -- Assumes nothing.
-use borrow.Author.Needs.{needs}
 use mathlib.Core.Path.{_≡_, refl, sym, ap, _∙_}
 use mathlib.Core.List.{List}
 use Prim.Native.Nat.{ℕ, _+_, _≤_, _<_, _-_}
@@ -61,12 +60,11 @@ loop-again c =
     let first : List ℕ = set (now (a .book)) 0 (a .still) in
     let value : ℕ = getD (now (a .holds)) (loop .upper) 0 in
     let room : 1 + loop .upper < length first = omega (arith, length-set (now (a .book)) 0 (a .still)) in
-    let long : loop .upper < length (now (a .holds)) = omega arith in
-    (
+    let long : loop .upper < length (now (a .holds)) = omega arith in (
       omega arith,
       length-set (loop .book) (1 + loop .upper) value ∙ loop .inv .1,
       ap (λ (b : List ℕ). set b (1 + loop .upper) value) (loop .inv .2) ∙ paste-suc first 1 (now (a .holds)) (loop .upper) 0 room long
-      ∙ ap (paste first 1 (now (a .holds))) (sym (add-one (loop .upper))),
+          ∙ ap (paste first 1 (now (a .holds))) (sym (add-one (loop .upper))),
     )
 
 same-length : tie.Need-same-length Inv-loop μ-loop
