@@ -18,7 +18,6 @@ use Rattle.meaning.specs.declared.Feeding.{Feeding}
 use Rattle.meaning.specs.declared.Feeding.the-variants as feeding
 use Rattle.meaning.specs.declared.Level.{Level}
 use Rattle.meaning.specs.declared.Reading.{Reading}
-use Rattle.meaning.specs.declared.Refusal.{Refusal}
 use Rattle.meaning.proofs.Accepted.{accepted-is-rule}
 use Rattle.meaning.proofs.FeedLaws.{feed-taken}
 use Rattle.meaning.proofs.StillReading.{IsReading, reading-is, still-reading}
@@ -140,17 +139,23 @@ module _ (file : List ℕ) (rule : Rule) (book : List ℕ) (ceiling : ℕ) (star
       next-first = rw (add-one i, ← drop-cons events i 0 inside) (g .rest)
 
       -- the next event was refused
-      pub going-refused : {states″ places″ : List ℕ} (f : Refusal) → Stepped answered (step.Refused f) states′ places′ states″ places″
-          → FedIs wholeFeed start (record { taken = r .taken - start .taken; reading = r; ended = feeding.Refused f }) states places states″ places″
+      pub going-refused : {states″ places″ : List ℕ} (number : ℕ) → Stepped answered r (step.Refused number) states′ places′ states″ places″
+          → FedIs wholeFeed start
+          (record {
+            taken = r .taken - start .taken;
+            reading = r;
+            ended = feeding.Refused (record { number = number; place = r .taken });
+          })
+          states places states″ places″
       unfolding feedingSays stepSays storeAfter refusalSays
-      going-refused {states″} {places″} f s =
-          let said : answered ≡ refused (f .number) (f .place) = sym (s .answer) in
-          let came : wholeFeed ≡ record { last = before; ended = refused (f .number) (f .place) } = sym next-first ∙ feed-refused _ _ said in
+      going-refused {states″} {places″} number s =
+          let said : answered ≡ refused number (r .taken) = sym (s .answer) in
+          let came : wholeFeed ≡ record { last = before; ended = refused number (r .taken) } = sym next-first ∙ feed-refused _ _ said in
           let left : Holds (storeOf states′ places′) states′ places′ states″ places″ = rw (said, storeAfter) at (s .holds) in
           fed-is start r _ _ _ _ came refl refl (holds-again (g .holds) left refl)
 
       -- the next event was taken
-      pub going-on : {states″ places″ : List ℕ} (next : Reading) → Stepped answered (step.To next) states′ places′ states″ places″
+      pub going-on : {states″ places″ : List ℕ} (next : Reading) → Stepped answered r (step.To next) states′ places′ states″ places″
           → Going next states″ places″ (i + 1)
       unfolding stepSays
       going-on {states″} {places″} next s =

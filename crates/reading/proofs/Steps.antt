@@ -12,9 +12,8 @@ use Rattle.meaning.specs.RuleFile as format
 use Rattle.meaning.specs.RuleFile.{isState, ruleOf}
 use Rattle.meaning.specs.FullReading.{Event, stores, goOn, feedBy}
 use Rattle.meaning.specs.Skipping.{skipEvent}
-use Rattle.meaning.specs.Calls.{Stored, refusalSays, topOf, storedAfter, storeStep}
+use Rattle.meaning.specs.Calls.{Stored, topOf, storedAfter, storeStep}
 use Rattle.meaning.specs.declared.Reading.{Reading}
-use Rattle.meaning.specs.declared.Refusal.{Refusal}
 use Rattle.meaning.specs.declared.Level.{Level}
 use Rattle.meaning.proofs.StillReading.{IsReading, is-reading}
 use Rattle.meaning.proofs.Turns.{Turned, storesOpen, turned}
@@ -67,8 +66,8 @@ module _ {file : List ℕ} {rule : Rule} {book : List ℕ} {r : Reading} {store 
 
 module _ (R : format.Rule) (book : List ℕ) (ceiling : ℕ) (r : Reading) (store : List Level) (e : ℕ) where
   pub step-of : {room : ℕ} {top : Level} (x : Turn) → room ≡ length store → top ≡ topOf r store
-      → turnSays x ≡ skipEvent R book room ceiling r top e
-      → storeStep R book ceiling (over r store) e ≡ (turnSays x giving λ turn. given (storedAfter r store turn))
+      → turnSays r x ≡ skipEvent R book room ceiling r top e
+      → storeStep R book ceiling (over r store) e ≡ (turnSays r x giving λ turn. given (storedAfter r store turn))
   unfolding storeStep
   step-of x sameRoom sameTop says = rw (says, sameRoom, sameTop)
 
@@ -78,21 +77,22 @@ module _ (R : format.Rule) (book : List ℕ) (ceiling : ℕ) (r : Reading) (stor
 
   -- a record is stored only where there is room for it
   pub stored-fits : {room : ℕ} {x : Turn} (top l : Level) (next : Reading) → room ≡ length store → x ≡ turn.Stores l next
-      → turnSays x ≡ skipEvent R book room ceiling r top e → r .depth < length store
+      → turnSays r x ≡ skipEvent R book room ceiling r top e → r .depth < length store
   unfolding turnSays
   stored-fits {room} top l next sameRoom is says = rw (← sameRoom) (stores-fits (turned R book room ceiling r top e (sym (rw (is, turnSays) at says))))
 
 -- ---- what the code answers and leaves
 
 module _ (w : Answer Stored) (states places states′ places′ : List ℕ) where
-  pub stepped-to : (next : Reading) (store : List Level) → w ≡ given (over next store) → Holds store states places states′ places′
-      → Stepped w (step.To next) states places states′ places′
+  pub stepped-to : (before next : Reading) (store : List Level) → w ≡ given (over next store) → Holds store states places states′ places′
+      → Stepped w before (step.To next) states places states′ places′
   unfolding stepSays storeAfter
-  stepped-to next store e holds =
+  stepped-to before next store e holds =
       record { answer = rw (e, storeAfter); holds = rw (e, storeAfter) holds }
 
-  pub stepped-refused : (f : Refusal) → w ≡ refusalSays f → Holds (storeOf states places) states places states′ places′
-      → Stepped w (step.Refused f) states places states′ places′
-  unfolding stepSays storeAfter refusalSays
-  stepped-refused f e holds =
+  pub stepped-refused : (before : Reading) (number : ℕ) → w ≡ refused number (before .taken)
+      → Holds (storeOf states places) states places states′ places′
+      → Stepped w before (step.Refused number) states places states′ places′
+  unfolding stepSays storeAfter
+  stepped-refused before number e holds =
       record { answer = rw (e, storeAfter); holds = rw (e, storeAfter) holds }

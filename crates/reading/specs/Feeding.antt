@@ -8,7 +8,7 @@ use lib.ListN.{length}
 use Rattle.meaning.specs.Answers.{Answer, given, refused}
 use Rattle.meaning.specs.RuleFile.{ruleOf}
 use Rattle.meaning.specs.FullReading.{Went}
-use Rattle.meaning.specs.Calls.{Stored, refusalSays, feedingSays, notReading}
+use Rattle.meaning.specs.Calls.{Stored, feedingSays, notReading}
 use Rattle.meaning.specs.declared.Fed.{Fed}
 use Rattle.meaning.specs.declared.Level.{Level}
 use Rattle.meaning.specs.declared.Reading.{Reading}
@@ -30,18 +30,18 @@ over r store = record { reading = r; store = store }
 
 -- ---- one event
 
--- the number and the values of each case
-unfoldable pub stepSays : Step → List Level → Answer Stored
-stepSays (step.To r) store = given (over r store)
-stepSays (step.Refused r) store = refusalSays r
+-- the number and the values of each case, after a reading and with the store that is left
+unfoldable pub stepSays : Reading → Step → List Level → Answer Stored
+stepSays before (step.To r) store = given (over r store)
+stepSays before (step.Refused number) store = refused number (before .taken)
 
 -- the store after an event: a refused event changes nothing
 unfoldable pub storeAfter : Answer Stored → List Level → List Level
 storeAfter (given s) store = s .store
 storeAfter (refused number place) store = store
 
-pub record Stepped (w : Answer Stored) (r : Step) (states places states′ places′ : List ℕ) : Type 0 where
-  pub answer : stepSays r (storeAfter w (storeOf states places)) ≡ w
+pub record Stepped (w : Answer Stored) (before : Reading) (r : Step) (states places states′ places′ : List ℕ) : Type 0 where
+  pub answer : stepSays before r (storeAfter w (storeOf states places)) ≡ w
   pub holds : Holds (storeAfter w (storeOf states places)) states places states′ places′
 
 -- ---- all events

@@ -3,8 +3,7 @@ use Prim.Native.Nat.{ℕ, _+_, _≤_, _<_}
 use mathlib.Core.Path.{_≡_}
 use mathlib.Core.List.{List}
 use lib.ListN.{length}
-use Rattle.meaning.specs.Answers.{Answer, given, if_then_else_, _≤?_, _=?_}
-use Rattle.meaning.specs.Calls.{refusalSays}
+use Rattle.meaning.specs.Answers.{Answer, given, refused, if_then_else_, _≤?_, _=?_}
 use Rattle.meaning.specs.FullReading as full
 use Rattle.meaning.specs.FullReading.{stays, stores, ends, mostEvents}
 use Rattle.meaning.specs.RuleFile.{none, checkRule, ruleOf}
@@ -15,12 +14,12 @@ use Rattle.rule.specs.declared.Rule.{Rule}
 use Rattle.reading.specs.declared.Turn.{Turn}
 use Rattle.reading.specs.declared.Turn.the-variants as turn
 
--- the number and the values of each case
-unfoldable pub turnSays : Turn → Answer full.Turn
-turnSays (turn.Stays r) = given (stays r)
-turnSays (turn.Stores l r) = given (stores l r)
-turnSays (turn.Ends r) = given (ends r)
-turnSays (turn.Refused r) = refusalSays r
+-- the number and the values of each case, after a reading: the place of a refused event is the count of events taken
+unfoldable pub turnSays : Reading → Turn → Answer full.Turn
+turnSays before (turn.Stays r) = given (stays r)
+turnSays before (turn.Stores l r) = given (stores l r)
+turnSays before (turn.Ends r) = given (ends r)
+turnSays before (turn.Refused number) = refused number (before .taken)
 
 -- the number of the refusal of a look at a byte, or zero where it gives a state: the ceiling first, and then no move
 unfoldable pub lookNumber : ℕ → Reading → ℕ → ℕ → ℕ

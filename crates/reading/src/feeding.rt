@@ -9,6 +9,7 @@ use crate::turns::skip_event;
 use meaning::Fed;
 use meaning::Feeding;
 use meaning::Reading;
+use meaning::Refusal;
 use rule::Rule;
 ghost use Rattle.meaning.specs.RuleFile.{ruleOf};
 ghost use Rattle.meaning.specs.FullReading.{feedBy};
@@ -28,7 +29,7 @@ fn take_event(
     event: u16,
 ) -> Step
     requires { ⌜ Feeds (now file) rule (now book) reading (storeOf (now states) (now places)) ⌝ }
-    ensures { λ r. ⌜ Stepped (storeStep (ruleOf (now (file .entry))) (now (book .entry)) ceiling (over reading (storeOf (now (states .entry)) (now (places .entry)))) event) r (now (states .entry)) (now (places .entry)) (now (states .exit)) (now (places .exit)) ⌝ }
+    ensures { λ r. ⌜ Stepped (storeStep (ruleOf (now (file .entry))) (now (book .entry)) ceiling (over reading (storeOf (now (states .entry)) (now (places .entry)))) event) reading r (now (states .entry)) (now (places .entry)) (now (states .exit)) (now (places .exit)) ⌝ }
 {
     let top = top_level(states, places, reading);
     match skip_event(
@@ -43,7 +44,7 @@ fn take_event(
     ) {
         Turn::Stays(next) => Step::To(next),
         Turn::Ends(next) => Step::To(next),
-        Turn::Refused(refusal) => Step::Refused(refusal),
+        Turn::Refused(number) => Step::Refused(number),
         Turn::Stores(level, next) => {
             put_level(states, places, reading.depth as usize, level);
             Step::To(next)
@@ -77,12 +78,13 @@ pub fn feed_events(
                 at = passed.reading;
                 i = passed.next;
             }
-            Step::Refused(refusal) => {
+            Step::Refused(number) => {
                 let taken = at.taken - reading.taken;
+                let place = at.taken as usize;
                 return Fed {
                     taken,
                     reading: at,
-                    ended: Feeding::Refused(refusal),
+                    ended: Feeding::Refused(Refusal { number, place }),
                 };
             }
         }

@@ -32,18 +32,19 @@ ghost use Rattle.reading.specs.Checks.{begunSays};
 ghost use Rattle.reading.specs.Whole.{ReadIs};
 
 // What one event leads to: the open levels stay, a record is stored for one more level, the innermost level ends, or
-// the event is refused.
+// the event is refused with a number. The place of a refused event is the count of events taken before it, which the
+// reading has.
 enum Turn {
     Stays(Reading),
     Stores(Level, Reading),
     Ends(Reading),
-    Refused(Refusal),
+    Refused(u8),
 }
 
-// What becomes of an event that is handed to a reading over a level store: the next reading, or a refusal.
+// What becomes of an event that is handed to a reading over a level store: the next reading, or the number of a refusal.
 enum Step {
     To(Reading),
-    Refused(Refusal),
+    Refused(u8),
 }
 
 // Where passing over a run of events was left: the reading there, and the index of the next event.

@@ -5,14 +5,12 @@ use crate::settling::is_held;
 use crate::settling::is_settled;
 use meaning::Level;
 use meaning::Reading;
-use meaning::Refusal;
 use rule::Rule;
 use rule::tables;
 ghost use mathlib.Core.Path.{_≡_};
 ghost use mathlib.Core.Bool.{true};
 ghost use mathlib.Core.List.{List};
 ghost use Prim.Native.Nat.{ℕ, _+_, _<_};
-ghost use Rattle.meaning.specs.Answers.{refused};
 ghost use Rattle.meaning.specs.RuleFile.{ruleOf};
 ghost use Rattle.meaning.specs.FullReading.{opens, closes, letter, eventOf, fullTurn};
 ghost use Rattle.meaning.specs.FullReading as full;
@@ -29,14 +27,6 @@ const NO_LETTER_MOVE: u8 = 11;
 const NO_TREE_START: u8 = 11;
 
 const NO_TREE_MOVE: u8 = 11;
-
-// The refusal of an event, at its place: the count of events taken before it.
-fn refused_event(reading: Reading, number: u8) -> Turn
-    ensures { λ r. ⌜ turnSays r ≡ refused number (reading .taken) ⌝ }
-{
-    let place = reading.taken as usize;
-    Turn::Refused(Refusal { number, place })
-}
 
 // The reading after an event that was a look.
 fn looked(reading: Reading, state: u8, depth: u32) -> Reading
@@ -85,12 +75,12 @@ fn look_refused(ceiling: u32, reading: Reading, byte: u8, number: u8) -> u8
 // A letter in full reading. The level store's length and the innermost record do not matter.
 fn full_letter(file: &[u8], rule: Rule, ceiling: u32, reading: Reading, a: u16) -> Turn
     requires { ⌜ RuleOf (now file) rule ⌝ ∗ ⌜ OneMore reading ⌝ ∗ ⌜ reading .state < rule .states ⌝ ∗ ⌜ a < rule .letters ⌝ }
-    ensures { λ r. ⌜ ((room : ℕ) (top : Level) → turnSays r ≡ fullTurn (ruleOf (now (file .entry))) room ceiling reading top (letter a)) ⌝ }
+    ensures { λ r. ⌜ ((room : ℕ) (top : Level) → turnSays reading r ≡ fullTurn (ruleOf (now (file .entry))) room ceiling reading top (letter a)) ⌝ }
 {
     let state = tables::letter_move(file, rule, reading.state, a);
     let letter_refused = look_refused(ceiling, reading, state, NO_LETTER_MOVE);
     if letter_refused != 0 {
-        return refused_event(reading, letter_refused);
+        return Turn::Refused(letter_refused);
     }
     Turn::Stays(looked(reading, state, reading.depth))
 }
@@ -98,15 +88,15 @@ fn full_letter(file: &[u8], rule: Rule, ceiling: u32, reading: Reading, a: u16) 
 // An open in full reading.
 fn full_open(rule: Rule, room: usize, ceiling: u32, reading: Reading) -> Turn
     requires { ⌜ OneMore reading ⌝ }
-    ensures { λ r. ⌜ ((file : List ℕ) (top : Level) → RuleOf file rule → turnSays r ≡ fullTurn (ruleOf file) room ceiling reading top opens) ⌝ }
+    ensures { λ r. ⌜ ((file : List ℕ) (top : Level) → RuleOf file rule → turnSays reading r ≡ fullTurn (ruleOf file) room ceiling reading top opens) ⌝ }
 {
     let depth = reading.depth as usize;
     let start_refused = look_refused(ceiling, reading, rule.tree_start, NO_TREE_START);
     if room <= depth {
-        return refused_event(reading, 8);
+        return Turn::Refused(8);
     }
     if start_refused != 0 {
-        return refused_event(reading, start_refused);
+        return Turn::Refused(start_refused);
     }
     let opened = Level {
         above: reading.state,
@@ -118,15 +108,15 @@ fn full_open(rule: Rule, room: usize, ceiling: u32, reading: Reading) -> Turn
 // A close in full reading.
 fn full_close(file: &[u8], rule: Rule, ceiling: u32, reading: Reading, top: Level) -> Turn
     requires { ⌜ RuleOf (now file) rule ⌝ ∗ ⌜ OneMore reading ⌝ ∗ ⌜ StatesIn rule reading top ⌝ }
-    ensures { λ r. ⌜ ((room : ℕ) → turnSays r ≡ fullTurn (ruleOf (now (file .entry))) room ceiling reading top closes) ⌝ }
+    ensures { λ r. ⌜ ((room : ℕ) → turnSays reading r ≡ fullTurn (ruleOf (now (file .entry))) room ceiling reading top closes) ⌝ }
 {
     if reading.depth == 0 {
-        return refused_event(reading, 7);
+        return Turn::Refused(7);
     }
     let state = tables::tree_move(file, rule, top.above, reading.state);
     let tree_refused = look_refused(ceiling, reading, state, NO_TREE_MOVE);
     if tree_refused != 0 {
-        return refused_event(reading, tree_refused);
+        return Turn::Refused(tree_refused);
     }
     Turn::Ends(looked(reading, state, reading.depth - 1))
 }
@@ -141,7 +131,7 @@ fn ends_level(
     top: Level,
 ) -> Turn
     requires { ⌜ RuleOf (now file) rule ⌝ ∗ ⌜ OneMore reading ⌝ ∗ ⌜ StatesIn rule reading top ⌝ ∗ ⌜ (held ≡ true → 0 < reading .depth) ⌝ }
-    ensures { λ r. ⌜ ((book : List ℕ) (room : ℕ) → held ≡ skipping.held book reading top → turnSays r ≡ endsLevel (ruleOf (now (file .entry))) book room ceiling reading top) ⌝ }
+    ensures { λ r. ⌜ ((book : List ℕ) (room : ℕ) → held ≡ skipping.held book reading top → turnSays reading r ≡ endsLevel (ruleOf (now (file .entry))) book room ceiling reading top) ⌝ }
 {
     if held {
         let depth = reading.depth - 1;
@@ -161,7 +151,7 @@ fn settled_turn(
     event: u16,
 ) -> Turn
     requires { ⌜ RuleOf (now file) rule ⌝ ∗ ⌜ OneMore reading ⌝ ∗ ⌜ StatesIn rule reading top ⌝ ∗ ⌜ (held ≡ true → 0 < reading .depth) ⌝ }
-    ensures { λ r. ⌜ ((book : List ℕ) (room : ℕ) → held ≡ skipping.held book reading top → turnSays r ≡ settledTurn (ruleOf (now (file .entry))) book room ceiling reading top (eventOf event)) ⌝ }
+    ensures { λ r. ⌜ ((book : List ℕ) (room : ℕ) → held ≡ skipping.held book reading top → turnSays reading r ≡ settledTurn (ruleOf (now (file .entry))) book room ceiling reading top (eventOf event)) ⌝ }
 {
     if event == 0 {
         let skip = reading.skip + 1;
@@ -189,7 +179,7 @@ fn full_turn(
     event: u16,
 ) -> Turn
     requires { ⌜ RuleOf (now file) rule ⌝ ∗ ⌜ OneMore reading ⌝ ∗ ⌜ StatesIn rule reading top ⌝ ∗ ⌜ event < rule .letters + 2 ⌝ }
-    ensures { λ r. ⌜ turnSays r ≡ fullTurn (ruleOf (now (file .entry))) room ceiling reading top (eventOf event) ⌝ }
+    ensures { λ r. ⌜ turnSays reading r ≡ fullTurn (ruleOf (now (file .entry))) room ceiling reading top (eventOf event) ⌝ }
 {
     if event == 0 {
         return full_open(rule, room, ceiling, reading);
@@ -212,14 +202,14 @@ pub fn skip_event(
     event: u16,
 ) -> Turn
     requires { ⌜ Ready (now file) rule (now book) reading top ⌝ }
-    ensures { λ r. ⌜ turnSays r ≡ skipEvent (ruleOf (now (file .entry))) (now (book .entry)) room ceiling reading top event ⌝ }
+    ensures { λ r. ⌜ turnSays reading r ≡ skipEvent (ruleOf (now (file .entry))) (now (book .entry)) room ceiling reading top event ⌝ }
 {
     let known = rule.letters + 2;
     if MOST_EVENTS <= reading.taken {
-        return refused_event(reading, 16);
+        return Turn::Refused(16);
     }
     if known <= event {
-        return refused_event(reading, 10);
+        return Turn::Refused(10);
     }
     let held = is_held(book, reading, top);
     let settled = is_settled(book, reading, held);

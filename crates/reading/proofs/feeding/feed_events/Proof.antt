@@ -62,22 +62,25 @@ loop-again c =
     going-passed _ _ _ _ _ _ _ _ (taken (c .before .before .before .before .before .before)) (c .before .pass-settled .result)
     (rw (c .before .before .top-level .ensures) at (c .before .pass-settled .ensures))
 
-enum-known-refusal : tie.Need-enum-known-refusal Inv-loop μ-loop
-enum-known-refusal c = search needs
+enum-known-number : tie.Need-enum-known-number Inv-loop μ-loop
+enum-known-number c = search needs
 
 sub-taken : tie.Need-sub-taken Inv-loop μ-loop
 sub-taken c = c .before .before .before .before .before .before .before .before .before .before .before .before .before .before .loop .inv .more
 
+cast-place : tie.Need-cast-place Inv-loop μ-loop
+cast-place c = search needs
+
 same-length : tie.Need-same-length Inv-loop μ-loop
-same-length c = c .before .before .before .before .before .before .before .before .before .take-event .kept .1 .1 .1 .1 .1 .0 ∙ going-length _ _ _ _ _ _ _ _ (c .before .before .before .before .before .before .before .before .before .before .before .before .before .before .loop .inv) .0
+same-length c = c .before .before .before .before .before .before .before .before .before .before .take-event .kept .1 .1 .1 .1 .1 .0 ∙ going-length _ _ _ _ _ _ _ _ (c .before .before .before .before .before .before .before .before .before .before .before .before .before .before .before .loop .inv) .0
 
 same-length-2 : tie.Need-same-length-2 Inv-loop μ-loop
-same-length-2 c = c .before .before .before .before .before .before .before .before .before .take-event .kept .1 .1 .1 .1 .1 .1 .0 ∙ going-length _ _ _ _ _ _ _ _ (c .before .before .before .before .before .before .before .before .before .before .before .before .before .before .loop .inv) .1
+same-length-2 c = c .before .before .before .before .before .before .before .before .before .before .take-event .kept .1 .1 .1 .1 .1 .1 .0 ∙ going-length _ _ _ _ _ _ _ _ (c .before .before .before .before .before .before .before .before .before .before .before .before .before .before .before .loop .inv) .1
 
 returns : tie.Need-returns Inv-loop μ-loop
 returns c =
-    going-refused _ _ _ _ _ _ _ _ (c .before .before .before .before .before .before .before .before .before .before .before .before .before .before .loop .inv) (c .before .before .before .before .before .before .before .before .before .before .before .before .before .loop-test .taken) _
-    (rw (c .before .before .before .refusal .given .1) at (c .before .before .before .before .before .before .before .before .before .take-event .ensures))
+    going-refused _ _ _ _ _ _ _ _ (c .before .before .before .before .before .before .before .before .before .before .before .before .before .before .before .loop .inv) (c .before .before .before .before .before .before .before .before .before .before .before .before .before .before .loop-test .taken) _
+    (rw (c .before .before .before .before .number .given .1) at (c .before .before .before .before .before .before .before .before .before .before .take-event .ensures))
 
 sub-taken-2 : tie.Need-sub-taken-2 Inv-loop μ-loop
 sub-taken-2 c = c .before .before .before .loop .inv .more
@@ -107,8 +110,9 @@ feed-events-spec =
     pass-settled-requires
     loop-less
     loop-again
-    enum-known-refusal
+    enum-known-number
     sub-taken
+    cast-place
     same-length
     same-length-2
     returns

@@ -7,7 +7,7 @@ use mathlib.Core.List.{List}
 use denote.Ref.{now}
 use Rattle.meaning.specs.Answers.{given, _giving_}
 use Rattle.meaning.specs.RuleFile.{ruleOf}
-use Rattle.meaning.specs.Calls.{refusalSays, storedAfter, storeStep}
+use Rattle.meaning.specs.Calls.{storedAfter, storeStep}
 use Rattle.meaning.specs.declared.Level.{Level}
 use Rattle.reading.specs.Turns.{turnSays}
 use Rattle.reading.specs.Store.{storeOf}
@@ -24,7 +24,7 @@ storeAt s = storeOf (now (s .args .states)) (now (s .args .places))
 -- what the event comes to, from its turn
 stepped : (c : tie.After-skip-event) → let s = c .before .before .before .before .before .before .before .before .before .before .before in
     storeStep (ruleOf (now (s .args .file))) (now (s .args .book)) (s .args .ceiling) (over (s .args .reading) (storeAt s)) (s .args .event)
-    ≡ (turnSays (c .skip-event .result) giving λ turn. given (storedAfter (s .args .reading) (storeAt s) turn))
+    ≡ (turnSays (s .args .reading) (c .skip-event .result) giving λ turn. given (storedAfter (s .args .reading) (storeAt s) turn))
 stepped c =
     step-of _ _ _ _ _ _ (c .skip-event .result) (c .before .room .ensures) (c .before .before .before .before .top-level .ensures) (c .skip-event .ensures)
 
@@ -43,8 +43,8 @@ enum-known-next c = search needs
 enum-known-next-2 : tie.Need-enum-known-next-2
 enum-known-next-2 c = search needs
 
-enum-known-refusal : tie.Need-enum-known-refusal
-enum-known-refusal c = search needs
+enum-known-number : tie.Need-enum-known-number
+enum-known-number c = search needs
 
 enum-known-level : tie.Need-enum-known-level
 enum-known-level c = search needs
@@ -68,7 +68,7 @@ returns : tie.Need-returns
 unfolding turnSays _giving_ storedAfter
 returns c =
     let came = c .before .next .given in
-    stepped-to _ _ _ _ _ _ (storeAt (c .before .before .before .before .before .before .before .before .before .before .before .before .before .before)) (stepped (c .before .before .before) ∙ rw (came .1)) (holds-same _ _)
+    stepped-to _ _ _ _ _ _ _ (storeAt (c .before .before .before .before .before .before .before .before .before .before .before .before .before .before)) (stepped (c .before .before .before) ∙ rw (came .1)) (holds-same _ _)
 
 same-length-3 : tie.Need-same-length-3
 same-length-3 c = search needs
@@ -80,7 +80,7 @@ returns-2 : tie.Need-returns-2
 unfolding turnSays _giving_ storedAfter
 returns-2 c =
     let came = c .before .next2 .given in
-    stepped-to _ _ _ _ _ _ (storeAt (c .before .before .before .before .before .before .before .before .before .before .before .before .before .before)) (stepped (c .before .before .before) ∙ rw (came .1)) (holds-same _ _)
+    stepped-to _ _ _ _ _ _ _ (storeAt (c .before .before .before .before .before .before .before .before .before .before .before .before .before .before)) (stepped (c .before .before .before) ∙ rw (came .1)) (holds-same _ _)
 
 same-length-5 : tie.Need-same-length-5
 same-length-5 c = search needs
@@ -89,10 +89,10 @@ same-length-6 : tie.Need-same-length-6
 same-length-6 c = search needs
 
 returns-3 : tie.Need-returns-3
-unfolding turnSays _giving_ storedAfter refusalSays
+unfolding turnSays _giving_
 returns-3 c =
-    let came = c .before .refusal .given in
-    stepped-refused _ _ _ _ _ _ (stepped (c .before .before .before) ∙ rw (came .1)) (holds-same _ _)
+    let came = c .before .number .given in
+    stepped-refused _ _ _ _ _ _ _ (stepped (c .before .before .before) ∙ rw (came .1)) (holds-same _ _)
 
 same-length-7 : tie.Need-same-length-7
 same-length-7 c = search needs
@@ -104,7 +104,7 @@ returns-4 : tie.Need-returns-4
 unfolding turnSays _giving_ storedAfter
 returns-4 c =
     let came = c .before .before .before .before .before .before .before .before .before .level .given in
-    stepped-to _ _ _ _ _ _ _ (stepped (c .before .before .before .before .before .before .before .before .before .before .before) ∙ rw (came .1)) (c .before .before .before .before .put-level .ensures)
+    stepped-to _ _ _ _ _ _ _ _ (stepped (c .before .before .before .before .before .before .before .before .before .before .before) ∙ rw (came .1)) (c .before .before .before .before .put-level .ensures)
 
 pub take-event-spec : {M : Type 1} → statement M
 take-event-spec =
@@ -115,7 +115,7 @@ take-event-spec =
     skip-event-requires
     enum-known-next
     enum-known-next-2
-    enum-known-refusal
+    enum-known-number
     enum-known-level
     cast-put-level
     put-level-requires

@@ -12,12 +12,9 @@ use Rattle.reading.proofs.Turned.{close-turn, look-gives, look-refuses}
 use Rattle.reading.proofs.turns.full_close.Statement.{statement}
 use Rattle.reading.proofs.turns.full_close.Tie as tie
 
-refused-event-requires : tie.Need-refused-event-requires
-refused-event-requires c κs = search needs
-
 returns : tie.Need-returns
-unfolding fullTurn
-returns c = λ room. c .refused-event .ensures ∙ sym (refuse-stops 7 _ _ (eq-eqb _ _ (c .before .if1 .taken)))
+unfolding turnSays fullTurn
+returns c = λ room. sym (refuse-stops 7 _ _ (eq-eqb _ _ (c .if1 .taken)))
 
 tree-move-requires : tie.Need-tree-move-requires
 tree-move-requires c κs = search needs
@@ -25,21 +22,17 @@ tree-move-requires c κs = search needs
 look-refused-requires : tie.Need-look-refused-requires
 look-refused-requires c κs = search needs
 
-refused-event-requires-2 : tie.Need-refused-event-requires-2
-refused-event-requires-2 c κs = search needs
-
 returns-2 : tie.Need-returns-2
-unfolding noMoveNumber
+unfolding turnSays noMoveNumber
 returns-2 c =
-    let s = c .before .before .before .before .before .before .before in
+    let s = c .before .before .before .before .before .before in
     let states = s .pre .1 .1 in
-    let inside = c .before .before .before .before .if1 .left in
-    let read = c .before .before .before .tree-move in
-    let number = c .before .before .look-refused .ensures in
-    λ room. c .refused-event2 .ensures
-    ∙ rw number
+    let inside = c .before .before .before .if1 .left in
+    let read = c .before .before .tree-move in
+    let number = c .before .look-refused .ensures in
+    λ room. rw number
     (sym (close-turn (s .pre .0) room _ (s .args .reading) (s .args .top) inside (states .stateIn) (states .aboveIn (omega (arith, inside)))
-    ∙ rw (← read .ensures) (look-refuses _ (s .args .reading) treeTable (read .result) _ (rw (← number) (c .before .if2 .taken)))))
+    ∙ rw (← read .ensures) (look-refuses _ (s .args .reading) treeTable (read .result) _ (rw (← number) (c .if2 .taken)))))
 
 sub-looked : tie.Need-sub-looked
 sub-looked c = search needs
@@ -62,11 +55,9 @@ pub full-close-spec : {M : Type 1} → statement M
 full-close-spec =
     tie.close
     (tie.spec
-    refused-event-requires
     returns
     tree-move-requires
     look-refused-requires
-    refused-event-requires-2
     returns-2
     sub-looked
     looked-requires

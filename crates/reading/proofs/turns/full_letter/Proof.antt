@@ -14,19 +14,15 @@ letter-move-requires c κs = search needs
 look-refused-requires : tie.Need-look-refused-requires
 look-refused-requires c κs = search needs
 
-refused-event-requires : tie.Need-refused-event-requires
-refused-event-requires c κs = search needs
-
 returns : tie.Need-returns
-unfolding noMoveNumber
+unfolding turnSays noMoveNumber
 returns c =
-    let s = c .before .before .before .before .before in
-    let read = c .before .before .before .letter-move in
-    let number = c .before .before .look-refused .ensures in
-    λ room top. c .refused-event .ensures
-    ∙ rw number
+    let s = c .before .before .before .before in
+    let read = c .before .before .letter-move in
+    let number = c .before .look-refused .ensures in
+    λ room top. rw number
     (sym (letter-turn (s .pre .0) room _ (s .args .reading) top _ (s .pre .1 .1 .0) (s .pre .1 .1 .1)
-    ∙ rw (← read .ensures) (look-refuses _ (s .args .reading) letterTable (read .result) _ (rw (← number) (c .before .if1 .taken)))))
+    ∙ rw (← read .ensures) (look-refuses _ (s .args .reading) letterTable (read .result) _ (rw (← number) (c .if1 .taken)))))
 
 looked-requires : tie.Need-looked-requires
 looked-requires c κs = search needs
@@ -43,10 +39,4 @@ returns-2 c =
 pub full-letter-spec : {M : Type 1} → statement M
 full-letter-spec =
     tie.close
-    (tie.spec
-    letter-move-requires
-    look-refused-requires
-    refused-event-requires
-    returns
-    looked-requires
-    returns-2)
+    (tie.spec letter-move-requires look-refused-requires returns looked-requires returns-2)

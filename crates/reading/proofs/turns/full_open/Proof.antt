@@ -16,25 +16,18 @@ cast-depth c = search needs
 look-refused-requires : tie.Need-look-refused-requires
 look-refused-requires c κs = search needs
 
-refused-event-requires : tie.Need-refused-event-requires
-refused-event-requires c κs = search needs
-
 returns : tie.Need-returns
-unfolding fullTurn
-returns c = λ file top h. c .refused-event .ensures ∙ sym (refuse-stops 8 _ _ (le-leb _ _ (c .before .if1 .taken)))
-
-refused-event-requires-2 : tie.Need-refused-event-requires-2
-refused-event-requires-2 c κs = search needs
+unfolding turnSays fullTurn
+returns c = λ file top h. sym (refuse-stops 8 _ _ (le-leb _ _ (c .if1 .taken)))
 
 returns-2 : tie.Need-returns-2
-unfolding noMoveNumber
+unfolding turnSays noMoveNumber
 returns-2 c =
-    let s = c .before .before .before .before .before in
-    let number = c .before .before .before .look-refused .ensures in
-    λ file top h. c .refused-event2 .ensures
-    ∙ rw number
-    (sym (open-turn h _ _ (s .args .reading) top (c .before .before .if1 .left)
-    ∙ look-refuses _ (s .args .reading) startTable _ _ (rw (← number) (c .before .if2 .taken))))
+    let s = c .before .before .before .before in
+    let number = c .before .before .look-refused .ensures in
+    λ file top h. rw number
+    (sym (open-turn h _ _ (s .args .reading) top (c .before .if1 .left)
+    ∙ look-refuses _ (s .args .reading) startTable _ _ (rw (← number) (c .if2 .taken))))
 
 add-looked : tie.Need-add-looked
 add-looked c = search needs
@@ -56,9 +49,7 @@ full-open-spec =
     (tie.spec
     cast-depth
     look-refused-requires
-    refused-event-requires
     returns
-    refused-event-requires-2
     returns-2
     add-looked
     looked-requires

@@ -12,6 +12,7 @@ use Rattle.meaning.specs.FullReading.{knownEvent}
 use Rattle.meaning.specs.Skipping.{skipTurn, skipEvent}
 use Rattle.meaning.proofs.Answered.{refuse-stops, refuse-passes, if-true, if-false}
 use Rattle.meaning.proofs.StillReading.{held-deep}
+use Rattle.reading.specs.Turns.{turnSays}
 use Rattle.reading.proofs.Turned.{known-turn, letters-are, few-letters, book-serves}
 use Rattle.reading.proofs.turns.skip_event.Statement.{statement}
 use Rattle.reading.proofs.turns.skip_event.Tie as tie
@@ -19,23 +20,16 @@ use Rattle.reading.proofs.turns.skip_event.Tie as tie
 add-known : tie.Need-add-known
 add-known c = omega (arith, few-letters (c .before .before .before .pre .ruled))
 
-refused-event-requires : tie.Need-refused-event-requires
-refused-event-requires c κs = search needs
-
 returns : tie.Need-returns
-unfolding skipEvent knownEvent
-returns c = c .refused-event .ensures ∙ sym (refuse-stops 16 _ _ (le-leb _ _ (c .before .if1 .taken)))
-
-refused-event-requires-2 : tie.Need-refused-event-requires-2
-refused-event-requires-2 c κs = search needs
+unfolding turnSays skipEvent knownEvent
+returns c = sym (refuse-stops 16 _ _ (le-leb _ _ (c .if1 .taken)))
 
 returns-2 : tie.Need-returns-2
-unfolding skipEvent knownEvent
+unfolding turnSays skipEvent knownEvent
 returns-2 c =
-    let s = c .before .before .before .before .before .before .before in
-    c .refused-event2 .ensures
-    ∙ sym (refuse-passes 16 _ _ (lt-leb _ _ (c .before .before .if1 .left))
-    ∙ refuse-stops 10 _ _ (le-leb (ruleOf (now (s .args .file)) .letters + 2) (s .args .event) (omega (arith, letters-are (s .pre .ruled), c .before .if2 .taken))))
+    let s = c .before .before .before .before .before .before in
+    sym (refuse-passes 16 _ _ (lt-leb _ _ (c .before .if1 .left))
+    ∙ refuse-stops 10 _ _ (le-leb (ruleOf (now (s .args .file)) .letters + 2) (s .args .event) (omega (arith, letters-are (s .pre .ruled), c .if2 .taken))))
 
 is-held-requires : tie.Need-is-held-requires
 is-held-requires c κs =
@@ -88,9 +82,7 @@ skip-event-spec =
     tie.close
     (tie.spec
     add-known
-    refused-event-requires
     returns
-    refused-event-requires-2
     returns-2
     is-held-requires
     is-settled-requires
