@@ -15,7 +15,9 @@ use Rattle.meaning.specs.Answers.{_=?_}
 use Rattle.meaning.specs.RuleFile.{Rule, IsRule, treeMove}
 use Rattle.meaning.specs.SkipBook.{allBelow, listed, marked, noneOr, reachMarks, stillMarks, holdMarks, bookOf, wordOf, bit}
 use Rattle.meaning.proofs.Answered.{and-true, both-true}
-use Rattle.meaning.proofs.Marks.{truth, same-truth, absurd-truth, implied, implies, all-at, all-of, listed-length, listed-same, marked-true, marked-below}
+use Rattle.meaning.proofs.Truths.{truth, same-truth, true-is-not-false, implied, implies}
+use Rattle.meaning.proofs.Bools.{all-below, below-all, listed-length, listed-same}
+use Rattle.meaning.proofs.Marks.{marked-true, marked-below}
 use Rattle.meaning.proofs.Rounds.{most-states, start-marked}
 use Rattle.meaning.proofs.Bits.{bit-word, bit-and, bit-only, bit-zero, same-bits}
 use Rattle.book.specs.Sets.{StandsFor, firstOf, reachedWord, Reached, changing, Holds}
@@ -47,12 +49,12 @@ module _ (R : Rule) (rule : IsRule R) (q : ℕ) (start : q < R .states) where
   unfolding word reachMarks
   still-test =
       same-truth (word =? 2 ^ q) _
-      (λ t. all-of (R .states) _ (λ p h. implies (marked (reachMarks R q) p) (p =? q) (λ m.
+      (λ t. below-all (R .states) _ (λ p h. implies (marked (reachMarks R q) p) (p =? q) (λ m.
       let b : bit (2 ^ q) p ≡ true = ap (λ (w : ℕ). bit w p) (sym (eqb-true word (2 ^ q) t)) ∙ word-bit p ∙ m in
       eq-eqb p q (sym (eqb-true q p (sym (bit-only q p) ∙ b))))))
       (λ a. eq-eqb word (2 ^ q) (same-bits word (2 ^ q) (λ p. same-truth (bit word p) (bit (2 ^ q) p)
       (λ b. let m = sym (word-bit p) ∙ b in
-      bit-only q p ∙ eq-eqb q p (sym (eqb-true p q (implied (marked (reachMarks R q) p) _ (all-at (R .states) _ a p (marked-state p m)) m))))
+      bit-only q p ∙ eq-eqb q p (sym (eqb-true p q (implied (marked (reachMarks R q) p) _ (all-below (R .states) _ a p (marked-state p m)) m))))
       (λ b. word-bit p ∙ ap (marked (reachMarks R q)) (sym (eqb-true q p (sym (bit-only q p) ∙ b))) ∙ start-marked R 64 q start))))
 
   -- none of Reach(q) changes the level above
@@ -65,17 +67,17 @@ module _ (R : Rule) (rule : IsRule R) (q : ℕ) (start : q < R .states) where
     unfolding word changing
     hold-test =
         same-truth (bitAnd word change =? 0) _
-        (λ t. all-of (R .states) _ (λ p h. implies (marked (reachMarks R q) p) (noneOr u (treeMove R u p)) (λ m.
+        (λ t. below-all (R .states) _ (λ p h. implies (marked (reachMarks R q) p) (noneOr u (treeMove R u p)) (λ m.
         let empty : bit (bitAnd word change) p ≡ false = ap (λ (w : ℕ). bit w p) (eqb-true (bitAnd word change) 0 t) ∙ bit-zero p in
-        ⊎-elim (λ y. y) (λ n. absurd-truth (bit-and word change p ∙ both-true (word-bit p ∙ m)
+        ⊎-elim (λ y. y) (λ n. true-is-not-false (bit-and word change p ∙ both-true (word-bit p ∙ m)
         (changing-at p h ∙ first-in (R .states) _ p h (ap not n))) empty) (truth (noneOr u (treeMove R u p))))))
         (λ a. eq-eqb (bitAnd word change) 0 (same-bits (bitAnd word change) 0 (λ p. same-truth (bit (bitAnd word change) p) (bit 0 p)
         (λ b. let both = and-true (bit word p) (bit change p) (sym (bit-and word change p) ∙ b) in
         let m = sym (word-bit p) ∙ both .0 in
         let h = marked-state p m in
-        absurd-truth (implied (marked (reachMarks R q) p) _ (all-at (R .states) _ a p h) m)
+        true-is-not-false (implied (marked (reachMarks R q) p) _ (all-below (R .states) _ a p h) m)
         (not-true _ (first-true (R .states) _ p (sym (changing-at p h) ∙ both .1) .1)))
-        (λ b. absurd-truth b (bit-zero p)))))
+        (λ b. true-is-not-false b (bit-zero p)))))
 
 -- ---- the words of the book
 

@@ -15,8 +15,10 @@ use Rattle.meaning.specs.Answers.{_=?_}
 use Rattle.meaning.specs.RuleFile.{Rule, IsRule}
 use Rattle.meaning.specs.SkipBook.{itself, marked, oneMove, round, onlyState, reachedIn, adds, roundsUsedUp, wordOf, bit}
 use Rattle.meaning.proofs.Answered.{and-true, both-true}
-use Rattle.meaning.proofs.Marks.{truth, same-truth, or-true, or-left, or-right, any-at, any-some, any-none, any-false, never-both}
-use Rattle.meaning.proofs.Rounds.{most-states, reach-below, one-reaches, round-keeps, round-adds, round-true, round-same, round-length, nothing-added, marked-reached, next-round, first-round, only-true, only-start, only-length}
+use Rattle.meaning.proofs.Truths.{truth, same-truth, or-cases, or-true-left, or-true-right, never-both}
+use Rattle.meaning.proofs.Bools.{below-any, any-below, no-below-any, any-below-fails}
+use Rattle.meaning.proofs.Reaching.{reach-below}
+use Rattle.meaning.proofs.Rounds.{most-states, one-reaches, round-keeps, round-adds, round-true, round-same, round-length, nothing-added, marked-reached, next-round, first-round, only-true, only-start, only-length}
 use Rattle.meaning.proofs.Bits.{bit-word, word-of}
 use Rattle.book.proofs.Standing.{stands-as, stands-only, stands-word}
 use Rattle.book.specs.Sets.{StandsFor, Moves, joined, reachedWord, Reached}
@@ -24,10 +26,10 @@ use Rattle.book.specs.Sets.{StandsFor, Moves, joined, reachedWord, Reach
 module _ (R : Rule) (rule : IsRule R) (q : ℕ) (start : q < R .states) where
   -- only states are marked
   pub reached-below : (i p : ℕ) → marked (reachedIn R i q) p ≡ true → p < R .states
-  reached-below i p e = reach-below R rule start (marked-reached R i q p e)
+  reached-below i p e = reach-below rule start (marked-reached R i q p e)
 
   one-below : (m p : ℕ) → m < R .states → oneMove R m p ≡ true → p < R .states
-  one-below m p h e = reach-below R rule h (one-reaches R m m p itself e)
+  one-below m p h e = reach-below rule h (one-reaches R m m p itself e)
 
   module _ (moves : List ℕ) (good : Moves R moves) (i : ℕ) where
     marks : List Bool
@@ -40,23 +42,23 @@ module _ (R : Rule) (rule : IsRule R) (q : ℕ) (start : q < R .states) where
     unfolding joined set marks reachedWord Moves StandsFor
     there p h e = ⊎-elim
         (λ t. let m = sym (bit-word marks p) ∙ t in round-keeps R marks p (reached-below i p m) m)
-        (λ t. let s = any-some 64 (λ m. bit set m && bit (getD moves m 0) p) t in
+        (λ t. let s = any-below 64 (λ m. bit set m && bit (getD moves m 0) p) t in
         let b = and-true (bit set (s .0)) _ (s .2) in
         let m = sym (bit-word marks (s .0)) ∙ b .0 in
         let one = sym (good (s .0) (reached-below i (s .0) m) p h) ∙ b .1 in
         round-adds R marks (s .0) p (reached-below i (s .0) m) (one-below (s .0) p (reached-below i (s .0) m) one) m one)
-        (or-true (bit set p) _ e)
+        (or-cases (bit set p) _ e)
 
     back : (p : ℕ) → p < 64 → marked (round R marks) p ≡ true → joined moves set p ≡ true
     unfolding joined set marks reachedWord Moves StandsFor
     back p h e =
         let s = round-true R marks p e in
-        ⊎-elim (λ m. or-left _ (bit-word marks p ∙ m))
-        (λ t. let a = any-some (R .states) (λ m. marked marks m && oneMove R m p) t in
+        ⊎-elim (λ m. or-true-left _ (bit-word marks p ∙ m))
+        (λ t. let a = any-below (R .states) (λ m. marked marks m && oneMove R m p) t in
         let b = and-true (marked marks (a .0)) _ (a .2) in
-        or-right (bit set p) (any-at 64 (λ m. bit set m && bit (getD moves m 0) p) (a .0) (omega (arith, a .1, most-states rule))
+        or-true-right (bit set p) (below-any 64 (λ m. bit set m && bit (getD moves m 0) p) (a .0) (omega (arith, a .1, most-states rule))
         (both-true (bit-word marks (a .0) ∙ b .0) (good (a .0) (a .1) p h ∙ b .1))))
-        (or-true (marked marks p) _ (s .1))
+        (or-cases (marked marks p) _ (s .1))
 
     -- the word joined over its members is the word of the next round
     pub next-word : (next : ℕ) → next < 2 ^ 64 → StandsFor next (joined moves (reachedWord R i q)) → next ≡ reachedWord R (suc i) q
@@ -89,7 +91,7 @@ module _ (R : Rule) (rule : IsRule R) (q : ℕ) (start : q < R .states) where
   pub adds-nothing : (i : ℕ) → reachedWord R (suc i) q ≡ reachedWord R i q → adds R (reachedIn R i q) (reachedIn R (suc i) q) ≡ false
   unfolding adds
   adds-nothing i e =
-      any-false (R .states) _ (λ p h. ap (λ (b : Bool). b && not (marked (reachedIn R i q) p)) (same-marks (suc i) i e p)
+      any-below-fails (R .states) _ (λ p h. ap (λ (b : Bool). b && not (marked (reachedIn R i q) p)) (same-marks (suc i) i e p)
       ∙ never-both (marked (reachedIn R i q) p))
 
   pub word-stays : (i : ℕ) → adds R (reachedIn R i q) (reachedIn R (suc i) q) ≡ false → reachedWord R (suc i) q ≡ reachedWord R i q
@@ -160,4 +162,4 @@ module _ (moves reach : List ℕ) where
 pub reached-last : (R : Rule) → IsRule R → (reach : List ℕ) → Reached R 63 reach → roundsUsedUp R ≡ false → Reached R 64 reach
 unfolding Reached roundsUsedUp
 reached-last R rule reach reached e q h =
-    reached q h ∙ sym (word-stays R rule q h 63 (any-none (R .states) (λ s. adds R (reachedIn R 63 s) (reachedIn R 64 s)) e q h))
+    reached q h ∙ sym (word-stays R rule q h 63 (no-below-any (R .states) (λ s. adds R (reachedIn R 63 s) (reachedIn R 64 s)) e q h))

@@ -17,7 +17,8 @@ use borrow.Author.Tests.{ltb-true, ltb-false, lt-ltb, eqb-true, eq-eqb}
 use Rattle.meaning.specs.Answers.{_=?_, _<?_}
 use Rattle.meaning.specs.SkipBook.{anyBelow, bit, marked, wordOf}
 use Rattle.meaning.proofs.Answered.{and-true, both-true}
-use Rattle.meaning.proofs.Marks.{truth, same-truth, absurd-truth, or-true, or-left, or-right, last-or-below, any-at, any-some, any-false}
+use Rattle.meaning.proofs.Truths.{truth, same-truth, true-is-not-false, or-cases, or-true-left, or-true-right}
+use Rattle.meaning.proofs.Bools.{last-or-below, below-any, any-below, any-below-fails}
 use Rattle.meaning.proofs.Bits.{bit-zero, bit-or, bit-only, bit-past, word-of, lowest, cleared, cleared-less}
 use Rattle.book.specs.Sets.{StandsFor, joined, firstOf}
 
@@ -72,9 +73,9 @@ pub gather-yes : (set w i : ℕ) (test : ℕ → Bool) → test i ≡ true → w
 gather-yes set w i test member e s =
     rw e (stands-as (bitOr set (2 ^ i)) _ _ (λ p h. same-truth (firstOf i test p || i =? p) (firstOf (i + 1) test p)
     (λ t. ⊎-elim (λ f. let b = first-true i test p f in first-in (i + 1) test p (omega arith) (b .1))
-    (λ same. let q = eqb-true i p same in first-in (i + 1) test p (omega arith) (ap test (sym q) ∙ member)) (or-true (firstOf i test p) (i =? p) t))
+    (λ same. let q = eqb-true i p same in first-in (i + 1) test p (omega arith) (ap test (sym q) ∙ member)) (or-cases (firstOf i test p) (i =? p) t))
     (λ t. let b = first-true (i + 1) test p t in
-    ⊎-elim (λ same. or-right (firstOf i test p) (eq-eqb i p (sym same))) (λ less. or-left (i =? p) (first-in i test p less (b .1)))
+    ⊎-elim (λ same. or-true-right (firstOf i test p) (eq-eqb i p (sym same))) (λ less. or-true-left (i =? p) (first-in i test p less (b .1)))
     (last-or-below (rw add-one at (b .0)))))
     (stands-or set (2 ^ i) (firstOf i test) (λ p. i =? p) s (stands-only i)))
 
@@ -83,7 +84,7 @@ gather-no set i test out s =
     stands-as set _ _ (λ p h. same-truth (firstOf i test p) (firstOf (i + 1) test p)
     (λ t. let b = first-true i test p t in first-in (i + 1) test p (omega arith) (b .1))
     (λ t. let b = first-true (i + 1) test p t in
-    ⊎-elim (λ same. absurd-truth (ap test (sym same) ∙ b .1) out) (λ less. first-in i test p less (b .1)) (last-or-below (rw add-one at (b .0))))) s
+    ⊎-elim (λ same. true-is-not-false (ap test (sym same) ∙ b .1) out) (λ less. first-in i test p less (b .1)) (last-or-below (rw add-one at (b .0))))) s
 
 -- ---- the members one after the other
 
@@ -98,22 +99,22 @@ module _ (w : ℕ) (pos : 0 < w) (h : w < 2 ^ 64) (f : ℕ → Bool) where
   there : members ≡ true → (f (trailingZeros 64 w) || others) ≡ true
   unfolding members others
   there e =
-      let s = any-some 64 (λ m. bit w m && f m) e in
+      let s = any-below 64 (λ m. bit w m && f m) e in
       let m : ℕ = s .0 in
       let b = and-true (bit w m) (f m) (s .2) in
-      ⊎-elim (λ same. or-left _ (ap f (eqb-true (trailingZeros 64 w) m same) ∙ b .1))
-      (λ no. or-right (f (trailingZeros 64 w)) (any-at 64 _ m (s .1)
+      ⊎-elim (λ same. or-true-left _ (ap f (eqb-true (trailingZeros 64 w) m same) ∙ b .1))
+      (λ no. or-true-right (f (trailingZeros 64 w)) (below-any 64 _ m (s .1)
       (both-true (cleared 64 w pos h m ∙ both-true (b .0) (ap not no)) (b .1)))) (truth (trailingZeros 64 w =? m))
 
   back : (f (trailingZeros 64 w) || others) ≡ true → members ≡ true
   unfolding members others
   back e =
       let low = lowest 64 w pos h in
-      ⊎-elim (λ first. any-at 64 (λ m. bit w m && f m) (trailingZeros 64 w) (low .below) (both-true (low .member) first))
-      (λ other. let s = any-some 64 (λ m. bit (bitAnd w (w - 1)) m && f m) other in
+      ⊎-elim (λ first. below-any 64 (λ m. bit w m && f m) (trailingZeros 64 w) (low .below) (both-true (low .member) first))
+      (λ other. let s = any-below 64 (λ m. bit (bitAnd w (w - 1)) m && f m) other in
       let b = and-true (bit (bitAnd w (w - 1)) (s .0)) (f (s .0)) (s .2) in
-      any-at 64 (λ m. bit w m && f m) (s .0) (s .1) (both-true (and-true (bit w (s .0)) _ (sym (cleared 64 w pos h (s .0)) ∙ b .0) .0) (b .1)))
-      (or-true (f (trailingZeros 64 w)) others e)
+      below-any 64 (λ m. bit w m && f m) (s .0) (s .1) (both-true (and-true (bit w (s .0)) _ (sym (cleared 64 w pos h (s .0)) ∙ b .0) .0) (b .1)))
+      (or-cases (f (trailingZeros 64 w)) others e)
 
   pub lowest-first : anyBelow 64 (λ m. bit w m && f m) ≡ (f (trailingZeros 64 w) || anyBelow 64 (λ m. bit (bitAnd w (w - 1)) m && f m))
   unfolding members others
@@ -152,7 +153,7 @@ turn-next table set all rest pos t =
 pub turn-last : (table : List ℕ) (set all rest : ℕ) → rest ≡ 0 → Turn table set all rest → StandsFor all (joined table set)
 unfolding StandsFor
 turn-last table set all rest e t p h =
-    sym (or-none (bit all p) (any-false 64 _ (λ m l. ap (λ (w : ℕ). bit w m && bit (getD table m 0) p) e ∙ ap (λ (b : Bool). b && bit (getD table m 0) p) (bit-zero m))))
+    sym (or-none (bit all p) (any-below-fails 64 _ (λ m l. ap (λ (w : ℕ). bit w m && bit (getD table m 0) p) e ∙ ap (λ (b : Bool). b && bit (getD table m 0) p) (bit-zero m))))
     ∙ t .same p h
 
 -- ---- a table of 64 words that is filled from the front

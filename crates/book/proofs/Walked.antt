@@ -13,7 +13,8 @@ use Rattle.meaning.specs.RuleFile as format
 use Rattle.meaning.specs.RuleFile.{Move, to, noMove, none, asMove, letterMove, treeMove, ruleOf}
 use Rattle.meaning.specs.SkipBook.{anyBelow, goesTo, noneOr}
 use Rattle.meaning.proofs.Answered.{if-true, if-false}
-use Rattle.meaning.proofs.Marks.{truth, any-same}
+use Rattle.meaning.proofs.Truths.{truth}
+use Rattle.meaning.proofs.Bools.{any-below-same}
 use Rattle.meaning.proofs.Rounds.{counts, most-states}
 use Rattle.meaning.proofs.Accepted.{accepted-is-rule}
 use Rattle.rule.specs.declared.Rule.{Rule}
@@ -96,7 +97,7 @@ module _ {file : List ℕ} {rule : Rule} (ok : Accepted file rule) where
   trees-walked q set s =
       let R : format.Rule = ruleOf file in
       stands-as set _ _ (λ p h. ap (λ (n : ℕ). anyBelow n (λ l. goesTo p (treeMove R q l))) (sym states-are)
-      ∙ any-same (R .states) _ _ (λ l below. sym (ap (λ (b : Bool). b && goesTo p (treeMove R q l)) (counts R l .1 below)))) s
+      ∙ any-below-same (R .states) _ _ (λ l below. sym (ap (λ (b : Bool). b && goesTo p (treeMove R q l)) (counts R l .1 below)))) s
 
   -- all lower states gathered
   pub changes-gathered : (u set : ℕ) → StandsFor set (firstOf (rule .states) (λ p. not (noneOr u (treeMove (ruleOf file) u p))))

@@ -15,8 +15,11 @@ use Rattle.meaning.specs.RuleFile.{Rule, IsRule, treeMove, checkRule, ru
 use Rattle.meaning.specs.SkipBook.{Reach, Still, Hold, noneOr, allBelow, listed, marked, adds, reachedIn, reachMarks, roundsUsedUp, stillMarks, holdMarks, wordOf, bit, bookOf, inStill, inHold, IsBook, makeBook, bookAfter}
 use Rattle.meaning.proofs.Answered.{refuse-given, refuse-passes, giving-given, giving-passes}
 use Rattle.meaning.proofs.Accepted.{accepted-rule, accepted-is-rule}
-use Rattle.meaning.proofs.Marks.{implied, implies, any-none, all-at, all-of, listed-length, listed-at, listed-each, marked-below}
-use Rattle.meaning.proofs.Rounds.{reach-below, marks-are-reach, never-used-up}
+use Rattle.meaning.proofs.Truths.{implied, implies}
+use Rattle.meaning.proofs.Bools.{no-below-any, all-below, below-all, listed-length, listed-at}
+use Rattle.meaning.proofs.Marks.{listed-each, marked-below}
+use Rattle.meaning.proofs.Rounds.{marks-are-reach, never-used-up}
+use Rattle.meaning.proofs.Reaching.{reach-below}
 use Rattle.meaning.proofs.Bits.{bit-word, word-below}
 
 -- ---- the words of the book
@@ -58,20 +61,20 @@ module _ (R : Rule) (rest : List ℕ) where
       let holds : List ℕ = listed (R .states) (λ v. wordOf (holdMarks R v)) in
       let here : getD (bookOf R ++ rest) (1 + u) 0 ≡ wordOf (holdMarks R u) =
       ap (λ (i : ℕ). getD (bookOf R ++ rest) i 0) (one-add u)
-      ∙ List·getD-append holds rest 0 u (rw listed-length h) ∙ listed-at (R .states) _ 0 u h in
+      ∙ List·getD-append holds rest 0 u (rw listed-length h) ∙ listed-at (R .states) _ u 0 h in
       ap (λ (w : ℕ). bit w p) here ∙ bit-word (holdMarks R u) p
 
 module _ (R : Rule) (rule : IsRule R) (fine : roundsUsedUp R ≡ false) where
   reach-of : (q : ℕ) → q < R .states → (p : ℕ) → (marked (reachMarks R q) p ≡ true) ↔ Reach R q p
   unfolding roundsUsedUp
-  reach-of q h = marks-are-reach R rule q h (any-none (R .states) (λ s. adds R (reachedIn R 63 s) (reachedIn R 64 s)) fine q h)
+  reach-of q h = marks-are-reach R rule q h (no-below-any (R .states) (λ s. adds R (reachedIn R 63 s) (reachedIn R 64 s)) fine q h)
 
   -- what holds of all marks of Reach(q) holds of all of Reach(q)
   all-of-reach : (test : ℕ → Bool) (q : ℕ) → q < R .states
       → (allBelow (R .states) (λ p. not (marked (reachMarks R q) p) || test p) ≡ true) ↔ ((p : ℕ) → Reach R q p → test p ≡ true)
   all-of-reach test q h = (
-    λ e p r. implied (marked (reachMarks R q) p) (test p) (all-at (R .states) _ e p (reach-below R rule h r)) (reach-of q h p .1 r),
-    λ f. all-of (R .states) _ (λ p l. implies (marked (reachMarks R q) p) (test p) (λ m. f p (reach-of q h p .0 m))),
+    λ e p r. implied (marked (reachMarks R q) p) (test p) (all-below (R .states) _ e p (reach-below rule h r)) (reach-of q h p .1 r),
+    λ f. below-all (R .states) _ (λ p l. implies (marked (reachMarks R q) p) (test p) (λ m. f p (reach-of q h p .0 m))),
   )
 
   still-is : (q : ℕ) → q < R .states → (marked (stillMarks R) q ≡ true) ↔ Still R q

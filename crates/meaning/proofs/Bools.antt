@@ -14,8 +14,11 @@ pub use Rattle.meaning.proofs.Truths.{true-is-not-false, not-true-false
 -- ---- the numbers below n
 
 -- a number below suc n is the last one or lies below n
+pub last-or-below : {i n : ℕ} → i < suc n → (i ≡ n) ⊎ (i < n)
+last-or-below h = eq-or-lt-of-le (le-of-suc-le-suc h)
+
 pub below : {P : ℕ → Type 0} (n i : ℕ) → i < suc n → ((j : ℕ) → j < n → P j) → P n → P i
-below {P} n i h before last = go (eq-or-lt-of-le (le-of-suc-le-suc h))
+below {P} n i h before last = go (last-or-below h)
   where
     go : (i ≡ n) ⊎ (i < n) → P i
     go (inl e) = rw e last

@@ -11,7 +11,6 @@ pub mod Bools
 pub mod FeedKeeps
 pub mod Turns
 pub mod StoreView
-pub mod Moves
 pub mod StillReading
 pub mod ReadingCheck
 pub mod SplitFeeds

@@ -12,7 +12,10 @@ use Rattle.meaning.specs.Answers.{_<?_, _=?_, _≤?_}
 use Rattle.meaning.specs.RuleFile.{Rule, IsRule, Move, noMove, to, none, asMove, letterMove, treeMove, isMove, isState, isStates}
 use Rattle.meaning.specs.SkipBook.{canEndTree, Reach, itself, byLetter, byTree, anyBelow, marked, goesTo, oneMove, round, rounds, onlyState, reachedIn, adds, reachMarks, roundsUsedUp}
 use Rattle.meaning.proofs.Answered.{if-true, if-false, and-true, both-true}
-use Rattle.meaning.proofs.Marks.{truth, same-truth, or-true, or-left, or-right, absurd-truth, not-without, any-at, any-some, any-none, any-false, any-same, never-both, listed-length, listed-same, marked-below, marked-true, countBelow, count-most, count-less, count-some}
+use Rattle.meaning.proofs.Reaching.{letter-below, tree-below, reach-below}
+use Rattle.meaning.proofs.Truths.{truth, same-truth, or-cases, or-true-left, or-true-right, true-is-not-false, not-without, never-both}
+use Rattle.meaning.proofs.Bools.{below-any, any-below, no-below-any, any-below-fails, any-below-same, listed-length, listed-same}
+use Rattle.meaning.proofs.Marks.{marked-below, marked-true, countBelow, count-most, count-less, count-some}
 
 -- ---- moves
 
@@ -30,20 +33,6 @@ move-to x {q} e = ⊎-elim no-move some (truth (x =? none))
 
     some : (x =? none) ≡ false → ((x =? none) ≡ false) × (x ≡ q)
     some f = (f, cc (if-false noMove (to x) f))
-
--- a move in range leads to a state
-move-in : (n x : ℕ) {q : ℕ} → isMove n x ≡ true → asMove x ≡ to q → q < n
-unfolding isMove isState
-move-in n x {q} good e =
-    let s = move-to x e in
-    ⊎-elim (λ t. subst (λ (y : ℕ). y < n) (s .1) (ltb-true x n t)) (λ t. absurd-truth t (s .0)) (or-true (x <? n) (x =? none) good)
-
--- and so does a move of a table in range, at any place
-table-in : (n : ℕ) (xs : List ℕ) → ((i : ℕ) → i < length xs → isMove n (getD xs i 0) ≡ true)
-    → (i : ℕ) {q : ℕ} → asMove (getD xs i none) ≡ to q → q < n
-table-in n [] good i e = let z : _≡_ {A = ℕ} 0 1 = cc (none-is {x = none} refl) in absurd (omega arith)
-table-in n (x ∷ xs) good zero e = move-in n x (good zero (suc-le-suc zero-le)) e
-table-in n (x ∷ xs) good (suc i) e = table-in n xs (λ j h. good (suc j) (suc-le-suc h)) i e
 
 pub goes-to : (p : ℕ) {m : Move} → m ≡ to p → goesTo p m ≡ true
 unfolding goesTo
@@ -65,47 +54,31 @@ module _ (R : Rule) where
   pub letter-one : (p a : ℕ) {p′ : ℕ} → a < R .letters → letterMove R p a ≡ to p′ → oneMove R p p′ ≡ true
   unfolding oneMove
   letter-one p a {p′} h e =
-      or-left (anyBelow (R .states) (λ lower. canEndTree R lower && goesTo p′ (treeMove R p lower)))
-      (any-at (R .letters) (λ b. goesTo p′ (letterMove R p b)) a h (goes-to p′ e))
+      or-true-left (anyBelow (R .states) (λ lower. canEndTree R lower && goesTo p′ (treeMove R p lower)))
+      (below-any (R .letters) (λ b. goesTo p′ (letterMove R p b)) a h (goes-to p′ e))
 
   pub tree-one : (p lower : ℕ) {p′ : ℕ} → canEndTree R lower ≡ true → treeMove R p lower ≡ to p′ → oneMove R p p′ ≡ true
   unfolding oneMove
   tree-one p lower {p′} c e =
-      or-right (anyBelow (R .letters) (λ a. goesTo p′ (letterMove R p a)))
-      (any-at (R .states) (λ l. canEndTree R l && goesTo p′ (treeMove R p l)) lower (counts R lower .0 c) (both-true c (goes-to p′ e)))
+      or-true-right (anyBelow (R .letters) (λ a. goesTo p′ (letterMove R p a)))
+      (below-any (R .states) (λ l. canEndTree R l && goesTo p′ (treeMove R p l)) lower (counts R lower .0 c) (both-true c (goes-to p′ e)))
 
   -- what is one move away from a member of Reach is a member
   pub one-reaches : (q p p′ : ℕ) → Reach R q p → oneMove R p p′ ≡ true → Reach R q p′
   unfolding oneMove
   one-reaches q p p′ r e =
       ⊎-elim byLetters byTrees
-      (or-true (anyBelow (R .letters) (λ a. goesTo p′ (letterMove R p a)))
+      (or-cases (anyBelow (R .letters) (λ a. goesTo p′ (letterMove R p a)))
       (anyBelow (R .states) (λ lower. canEndTree R lower && goesTo p′ (treeMove R p lower))) e)
     where
       byLetters : anyBelow (R .letters) (λ a. goesTo p′ (letterMove R p a)) ≡ true → Reach R q p′
-      byLetters t = let s = any-some (R .letters) _ t in byLetter (s .0) r (s .1) (goes-true p′ _ (s .2))
+      byLetters t = let s = any-below (R .letters) _ t in byLetter (s .0) r (s .1) (goes-true p′ _ (s .2))
 
       byTrees : anyBelow (R .states) (λ lower. canEndTree R lower && goesTo p′ (treeMove R p lower)) ≡ true → Reach R q p′
       byTrees t =
-          let s = any-some (R .states) _ t in
+          let s = any-below (R .states) _ t in
           let b = and-true (canEndTree R (s .0)) _ (s .2) in
           byTree (s .0) r (b .0) (goes-true p′ _ (b .1))
-
-  -- Reach of a state holds states alone
-  pub letter-in : IsRule R → (p a : ℕ) {p′ : ℕ} → letterMove R p a ≡ to p′ → p′ < R .states
-  unfolding letterMove
-  letter-in rule p a e =
-      table-in (R .states) (R .letterMoves) (λ i h. rule .letterIn i (rw (rule .letterLength) at h)) (p * R .letters + a) e
-
-  pub tree-in : IsRule R → (p lower : ℕ) {p′ : ℕ} → treeMove R p lower ≡ to p′ → p′ < R .states
-  unfolding treeMove
-  tree-in rule p lower e =
-      table-in (R .states) (R .treeMoves) (λ i h. rule .treeIn i (rw (rule .treeLength) at h)) (p * R .states + lower) e
-
-  pub reach-below : IsRule R → {q p : ℕ} → q < R .states → Reach R q p → p < R .states
-  reach-below rule h itself = h
-  reach-below rule h (byLetter {p = p} a r l e) = letter-in rule p a e
-  reach-below rule h (byTree {p = p} lower r c e) = tree-in rule p lower e
 
   -- ---- one round
 
@@ -126,21 +99,21 @@ module _ (R : Rule) where
 
   -- a round keeps the marks
   pub round-keeps : (marks : List Bool) (p : ℕ) → p < R .states → marked marks p ≡ true → marked (round R marks) p ≡ true
-  round-keeps marks p h e = round-at marks p h ∙ or-left _ e
+  round-keeps marks p h e = round-at marks p h ∙ or-true-left _ e
 
   -- and marks all states one move away
   pub round-adds : (marks : List Bool) (p p′ : ℕ) → p < R .states → p′ < R .states → marked marks p ≡ true → oneMove R p p′ ≡ true
       → marked (round R marks) p′ ≡ true
   round-adds marks p p′ h h′ e one =
       round-at marks p′ h′
-      ∙ or-right (marked marks p′) (any-at (R .states) (λ q. marked marks q && oneMove R q p′) p h (both-true e one))
+      ∙ or-true-right (marked marks p′) (below-any (R .states) (λ q. marked marks q && oneMove R q p′) p h (both-true e one))
 
   -- where a round adds nothing, what it marks was marked
   pub nothing-added : (before after : List Bool) → adds R before after ≡ false → (p : ℕ) → p < R .states → marked after p ≡ true
       → marked before p ≡ true
   unfolding adds
   nothing-added before after e p h =
-      not-without (marked after p) (marked before p) (any-none (R .states) (λ s. marked after s && not (marked before s)) e p h)
+      not-without (marked after p) (marked before p) (no-below-any (R .states) (λ s. marked after s && not (marked before s)) e p h)
 
   closed : (marks : List Bool) {p p′ : ℕ} → adds R marks (round R marks) ≡ false → p < R .states → p′ < R .states
       → marked marks p ≡ true → oneMove R p p′ ≡ true → marked marks p′ ≡ true
@@ -178,19 +151,19 @@ module _ (R : Rule) where
   marked-reached zero q p e = subst (λ (s : ℕ). Reach R q s) (sym (only-true q p (rw (first-round q) at e))) itself
   marked-reached (suc i) q p e =
       ⊎-elim (marked-reached i q p)
-      (λ t. let s = any-some (R .states) _ t in
+      (λ t. let s = any-below (R .states) _ t in
       let b = and-true (marked (reachedIn R i q) (s .0)) _ (s .2) in
       one-reaches q (s .0) p (marked-reached i q (s .0) (b .0)) (b .1))
-      (or-true (marked (reachedIn R i q) p) _ (round-true (reachedIn R i q) p (rw (next-round i q) at e) .1))
+      (or-cases (marked (reachedIn R i q) p) _ (round-true (reachedIn R i q) p (rw (next-round i q) at e) .1))
 
   -- marks that a round does not add to hold all of Reach
   pub reached-marked : IsRule R → (q : ℕ) (marks : List Bool) → q < R .states → marked marks q ≡ true → adds R marks (round R marks) ≡ false
       → {p : ℕ} → Reach R q p → marked marks p ≡ true
   reached-marked rule q marks h start e itself = start
   reached-marked rule q marks h start e (byLetter {p = p} {p′ = p′} a r l m) =
-      closed marks e (reach-below rule h r) (letter-in rule p a m) (reached-marked rule q marks h start e r) (letter-one p a l m)
+      closed marks e (reach-below rule h r) (letter-below rule p a m) (reached-marked rule q marks h start e r) (letter-one p a l m)
   reached-marked rule q marks h start e (byTree {p = p} {p′ = p′} lower r c m) =
-      closed marks e (reach-below rule h r) (tree-in rule p lower m) (reached-marked rule q marks h start e r) (tree-one p lower c m)
+      closed marks e (reach-below rule h r) (tree-below rule p lower m) (reached-marked rule q marks h start e r) (tree-one p lower c m)
 
   -- when the 64th round adds nothing, the marks are Reach
   pub marks-are-reach : IsRule R → (q : ℕ) → q < R .states → adds R (reachedIn R 63 q) (reachedIn R 64 q) ≡ false
@@ -210,7 +183,7 @@ module _ (R : Rule) where
   unfolding round
   round-same marks marks′ same =
       listed-same (R .states) _ _ (λ p′ h. ap₂ (λ (a b : Bool). a || b) (same p′ h)
-      (any-same (R .states) _ _ (λ p l. ap (λ (a : Bool). a && oneMove R p p′) (same p l))))
+      (any-below-same (R .states) _ _ (λ p l. ap (λ (a : Bool). a && oneMove R p p′) (same p l))))
 
   -- after a round that adds nothing no round adds anything
   pub round-rests : (marks : List Bool) → adds R marks (round R marks) ≡ false → round R (round R marks) ≡ round R marks
@@ -219,7 +192,7 @@ module _ (R : Rule) where
 
   adds-none : (marks : List Bool) → adds R marks marks ≡ false
   unfolding adds
-  adds-none marks = any-false (R .states) _ (λ p h. never-both (marked marks p))
+  adds-none marks = any-below-fails (R .states) _ (λ p h. never-both (marked marks p))
 
   rests : (i q : ℕ) → adds R (reachedIn R i q) (reachedIn R (suc i) q) ≡ false
       → adds R (reachedIn R (suc i) q) (reachedIn R (suc (suc i)) q) ≡ false
@@ -233,7 +206,7 @@ module _ (R : Rule) where
       → countBelow (R .states) (marked marks) < countBelow (R .states) (marked (round R marks))
   unfolding adds
   adds-more marks e =
-      let s = any-some (R .states) (λ p. marked (round R marks) p && not (marked marks p)) e in
+      let s = any-below (R .states) (λ p. marked (round R marks) p && not (marked marks p)) e in
       let b = and-true (marked (round R marks) (s .0)) _ (s .2) in
       count-less (R .states) (marked marks) (marked (round R marks)) (round-keeps marks) (s .0) (s .1) (not-true _ (b .1)) (b .0)
 
@@ -247,7 +220,7 @@ module _ (R : Rule) where
   many-marked (suc i) q h e =
       let r : List Bool = reachedIn R i q in
       let added : adds R r (reachedIn R (suc i) q) ≡ true =
-      ⊎-elim (λ t. t) (λ f. absurd-truth e (rests i q f)) (truth (adds R r (reachedIn R (suc i) q))) in
+      ⊎-elim (λ t. t) (λ f. true-is-not-false e (rests i q f)) (truth (adds R r (reachedIn R (suc i) q))) in
       let more = adds-more (reachedIn R (suc i) q) (rw (next-round (suc i) q) at e) in
       rw (next-round (suc i) q) (omega (arith, many-marked i q h added, more))
 
@@ -258,6 +231,6 @@ most-states {R} rule = leb-true (R .states) 64 (and-true (1 ≤? R .states) _ (r
 pub never-used-up : (R : Rule) → IsRule R → roundsUsedUp R ≡ false
 unfolding roundsUsedUp
 never-used-up R rule =
-    any-false (R .states) _ (λ q h. ⊎-elim
+    any-below-fails (R .states) _ (λ q h. ⊎-elim
     (λ e. absurd (omega (arith, many-marked R 63 q h e, count-most (R .states) (marked (reachedIn R 64 q)), most-states rule)))
     (λ f. f) (truth (adds R (reachedIn R 63 q) (reachedIn R 64 q))))

@@ -20,7 +20,7 @@ use Rattle.meaning.specs.Calls.{Stored, topOf, storedAfter, storeStep, n
 use Rattle.meaning.proofs.Answered.{and-true, or-false, not-false-true, true-not-false}
 use Rattle.meaning.proofs.Bools.{below, all-below, below-all, both-false, true-is-not-false, not-true-false}
 use Rattle.meaning.proofs.FeedKeeps.{feed-keeps}
-use Rattle.meaning.proofs.Moves.{letter-move-in, tree-move-in, tree-start-in}
+use Rattle.meaning.proofs.Reaching.{letter-below, tree-below, start-below}
 use Rattle.meaning.proofs.StoreView.{step-turned}
 use Rattle.meaning.proofs.Turns.{Turned, passes, endsHeld, takesLetter, storesOpen, endsLooked}
 
@@ -33,6 +33,10 @@ pub record IsReading (R : Rule) (book : List ℕ) (r : Reading) (store : List Le
   pub skipsSettled : 0 < r .skip → settled book r (topOf r store) ≡ true
   pub nested : r .depth + r .skip ≤ r .taken
   pub looksIn : r .looks ≤ r .taken
+
+is-state : {n q : ℕ} → q < n → isState n q ≡ true
+unfolding isState
+is-state {n} {q} h = lt-ltb q n h
 
 skips-only : (n : ℕ) (b : Bool) → (0 <? n && not b) ≡ false → 0 < n → b ≡ true
 skips-only n b e h = not-false-true (rw (lt-ltb 0 n h) at e)
@@ -122,7 +126,7 @@ module _ {R : Rule} (isRule : IsRule R) (book : List ℕ) where
       }
   turn-reading r store i (takesLetter a q isNot known m) =
       record {
-        stateIn = letter-move-in isRule (r .state) a q (i .stateIn) known m;
+        stateIn = is-state (letter-below isRule (r .state) a m);
         within = i .within;
         aboveIn = i .aboveIn;
         skipsSettled = λ h. true-is-not-false (i .skipsSettled h) isNot;
@@ -131,7 +135,7 @@ module _ {R : Rule} (isRule : IsRule R) (book : List ℕ) where
       }
   turn-reading r store i (storesOpen q isNot fits m) =
       record {
-        stateIn = tree-start-in isRule q m;
+        stateIn = is-state (start-below isRule m);
         within = rw (length-set store (r .depth) (opened r)) (omega arith);
         aboveIn = opened-in r store i fits;
         skipsSettled = λ h. true-is-not-false (i .skipsSettled h) isNot;
@@ -140,7 +144,7 @@ module _ {R : Rule} (isRule : IsRule R) (book : List ℕ) where
       }
   turn-reading r store i (endsLooked q isNot z deep m) =
       record {
-        stateIn = tree-move-in isRule (topOf r store .above) (r .state) q (above-in r store i deep) (i .stateIn) m;
+        stateIn = is-state (tree-below isRule (topOf r store .above) (r .state) m);
         within = omega (arith, i .within);
         aboveIn = λ j h. i .aboveIn j (omega arith);
         skipsSettled = λ h. absurd (omega (arith, z (i .skipsSettled h)));

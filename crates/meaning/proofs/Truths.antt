@@ -1,6 +1,7 @@
 -- Laws of truth values: what follows from a test that holds, or fails, by its cases.
-use mathlib.Core.Path.{_≡_, refl}
-use mathlib.Core.Bool.{Bool, true, false, _&&_, _||_}
+use mathlib.Core.Path.{_≡_, refl, sym}
+use mathlib.Core.Bool.{Bool, true, false, not, _&&_, _||_, false≢true}
+use mathlib.Core.Logic.{_⊎_, inl, inr}
 use Prim.Native.Nat.{ℕ}
 use native.Mathlib.Omega.{arith}
 
@@ -40,3 +41,36 @@ and-false-right false e = refl
 
 pub both-false : {a b : Bool} → a ≡ false → b ≡ false → (a || b) ≡ false
 both-false p q = rw p q
+
+pub truth : (b : Bool) → (b ≡ true) ⊎ (b ≡ false)
+truth true = inl refl
+truth false = inr refl
+
+-- two truth values that imply each other are the same
+pub same-truth : (a b : Bool) → (a ≡ true → b ≡ true) → (b ≡ true → a ≡ true) → a ≡ b
+same-truth true b f g = sym (f refl)
+same-truth false true f g = g refl
+same-truth false false f g = refl
+
+pub or-cases : (a b : Bool) → (a || b) ≡ true → (a ≡ true) ⊎ (b ≡ true)
+or-cases true b e = inl refl
+or-cases false b e = inr e
+
+-- "not a, or b" is that a implies b
+pub implied : (a b : Bool) → (not a || b) ≡ true → a ≡ true → b ≡ true
+implied true b e h = e
+implied false b e h = absurd (false≢true h)
+
+pub implies : (a b : Bool) → (a ≡ true → b ≡ true) → (not a || b) ≡ true
+implies true b f = f refl
+implies false b f = refl
+
+-- "a and not b" is false: a implies b
+pub not-without : (a b : Bool) → (a && not b) ≡ false → a ≡ true → b ≡ true
+not-without true true e h = refl
+not-without true false e h = sym e
+not-without false b e h = absurd (false≢true h)
+
+pub never-both : (a : Bool) → (a && not a) ≡ false
+never-both true = refl
+never-both false = refl

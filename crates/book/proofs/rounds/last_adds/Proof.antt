@@ -8,7 +8,7 @@ use Prim.Native.Nat.{ℕ, _≤_, _<_, _-_}
 use native.Mathlib.Omega.{arith}
 use denote.Ref.{now}
 use Rattle.meaning.specs.SkipBook.{roundsUsedUp}
-use Rattle.meaning.proofs.Marks.{any-at, any-false}
+use Rattle.meaning.proofs.Bools.{below-any, any-below-fails}
 use Rattle.book.proofs.InRounds.{LastAdds, last-same, last-other}
 use Rattle.book.proofs.rounds.last_adds.Statement.{statement}
 use Rattle.book.proofs.rounds.last_adds.Tie as tie
@@ -40,7 +40,7 @@ returns c R rule good size reached =
     let loop = c .before .before .before .before .loop in
     let round = c .before .with-members in
     let inside : loop .state < R .states = omega arith in
-    sym (any-at (R .states) _ (loop .state) inside
+    sym (below-any (R .states) _ (loop .state) inside
     (last-other _ _ (loop .state) (round .result) (round .ok) (round .ensures) (c .if1 .taken) R rule good reached inside))
 
 add-state : tie.Need-add-state Inv-loop μ-loop
@@ -61,7 +61,7 @@ loop-again c =
 
 returns-2 : tie.Need-returns-2 Inv-loop μ-loop
 unfolding roundsUsedUp
-returns-2 c R rule good size reached = sym (any-false (R .states) _ (λ q h. c .before .loop .inv .1 q (omega arith) R rule good reached h))
+returns-2 c R rule good size reached = sym (any-below-fails (R .states) _ (λ q h. c .before .loop .inv .1 q (omega arith) R rule good reached h))
 
 pub last-adds-spec : {M : Type 1} → statement M
 last-adds-spec =
