@@ -19,6 +19,7 @@ use Rattle.book.specs.declared.Made.{Made}
 use Rattle.book.specs.declared.Made.the-variants as made
 use Rattle.book.specs.Says.{madeSays}
 use Rattle.book.specs.Sets.{Accepted}
+use Rattle.meaning.proofs.OneAnswer.{refusal-says}
 use Rattle.meaning.proofs.Accepted.{accepted-rule}
 use Rattle.meaning.proofs.Answered.{refuse-stops, refuse-passes, giving-passes, giving-stops}
 
@@ -66,7 +67,4 @@ unfolding madeSays refusalSays
 made-says (made.Still a) (made.Still b) e = cc
 made-says (made.Still a) (made.Refused b) e = cc
 made-says (made.Refused a) (made.Still b) e = cc
-made-says (made.Refused a) (made.Refused b) e =
-    let number : a .number ≡ b .number = cc in
-    let place : a .place ≡ b .place = cc in
-    λ i. made.Refused (record { number = number i; place = place i })
+made-says (made.Refused a) (made.Refused b) e = ap made.Refused (refusal-says a b e)

@@ -1,5 +1,5 @@
 -- What the header of the record of events says, by the tests that lead there, and where that record starts.
-use mathlib.Core.Path.{_≡_, refl, sym, _∙_}
+use mathlib.Core.Path.{_≡_, refl, ap, _∙_}
 use mathlib.Core.Bool.{Bool, true, false, not}
 use mathlib.Core.List.{List}
 use Prim.Native.Nat.{ℕ, _+_, _%_, _≤_, _<_}
@@ -10,7 +10,11 @@ use Rattle.meaning.specs.Answers.{Answer, given, refused, refuse_at_when_otherw
 use Rattle.meaning.specs.RuleFile.{Rule, headerLength, number2, number4, checkRule}
 use Rattle.meaning.specs.CheckProgram.{EventsAt, eventsKind, eventsHeader, eventsPlace, frontCheck}
 use Rattle.meaning.proofs.Answered.{refuse-passes, refuse-stops, giving-passes, giving-stops, if-true, if-false}
-use Rattle.input.specs.Says.{headerAnswer}
+use Rattle.meaning.specs.Calls.{refusalSays}
+use Rattle.meaning.proofs.OneAnswer.{given-says, refusal-says}
+use Rattle.input.specs.declared.Front.{Front}
+use Rattle.input.specs.declared.Front.the-variants as front
+use Rattle.input.specs.Says.{frontSays, headerAnswer}
 
 module _ (input : List ℕ) (place : ℕ) where
   pub header-short : length input < place + headerLength → headerAnswer input place ≡ refused 1 (length input)
@@ -56,3 +60,16 @@ pub bad-rule : (input : List ℕ) {number place : ℕ} → checkRule input ≡ r
     → frontCheck input ≡ refused number place
 unfolding frontCheck eventsPlace
 bad-rule input {number} e other = rw e (giving-stops _ (if-false _ _ (ne-eqb number 5 other)))
+
+-- ---- two answers that say the same are the same
+
+pub front-says : (a b : Front) → frontSays a ≡ frontSays b → a ≡ b
+unfolding frontSays refusalSays
+front-says (front.Events a) (front.Events b) e =
+    let same : _≡_ {A = EventsAt} _ _ = given-says _ _ e in
+    let places = ap (λ f. f .place) same in
+    let sizes = ap (λ f. f .size) same in
+    λ i. front.Events (record { place = places i; size = sizes i })
+front-says (front.Events a) (front.Refused b) e = cc
+front-says (front.Refused a) (front.Events b) e = cc
+front-says (front.Refused a) (front.Refused b) e = ap front.Refused (refusal-says a b e)

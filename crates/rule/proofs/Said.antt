@@ -10,6 +10,7 @@ use Rattle.meaning.specs.RuleFile.{checkRule}
 use Rattle.meaning.specs.Calls.{refusalSays}
 use Rattle.meaning.specs.declared.Refusal.{Refusal}
 use Rattle.meaning.proofs.Answered.{giving-given}
+use Rattle.meaning.proofs.OneAnswer.{refusal-says}
 use Rattle.rule.specs.declared.Rule.{Rule}
 use Rattle.rule.specs.declared.Checked.{Checked}
 use Rattle.rule.specs.declared.Checked.the-variants as checked
@@ -40,23 +41,17 @@ unfolding checkedSays checkAnswer refusalSays
 refused-check file r e =
     giving-refused (checkRule file) (λ R. given (numbersOf R)) (r .number) (r .place) (λ R. (numbersOf R, refl)) (sym e)
 
-same-refusal : {A : Type 0} (a b : Refusal) → _≡_ {A = Answer A} (refused (a .number) (a .place)) (refused (b .number) (b .place)) → a ≡ b
-same-refusal a b e =
-    let p : a .number ≡ b .number = cc in
-    let q : a .place ≡ b .place = cc in
-    λ i. record { number = p i; place = q i }
-
 -- two answers that say the same are the same
 pub checked-says : (a b : Checked) → checkedSays a ≡ checkedSays b → a ≡ b
 unfolding checkedSays refusalSays
 checked-says (checked.Fine a) (checked.Fine b) e = cc
 checked-says (checked.Fine a) (checked.Refused b) e = cc
 checked-says (checked.Refused a) (checked.Fine b) e = cc
-checked-says (checked.Refused a) (checked.Refused b) e = ap checked.Refused (same-refusal a b e)
+checked-says (checked.Refused a) (checked.Refused b) e = ap checked.Refused (refusal-says a b e)
 
 pub written-says : (a b : Written) → writtenSays a ≡ writtenSays b → a ≡ b
 unfolding writtenSays refusalSays
 written-says (written.Bytes a) (written.Bytes b) e = cc
 written-says (written.Bytes a) (written.Refused b) e = cc
 written-says (written.Refused a) (written.Bytes b) e = cc
-written-says (written.Refused a) (written.Refused b) e = ap written.Refused (same-refusal a b e)
+written-says (written.Refused a) (written.Refused b) e = ap written.Refused (refusal-says a b e)
