@@ -1,13 +1,345 @@
-//! Place for the second mode, to come: a static library linked into this
-//! program, so that no process is started for each input and single calls with
-//! any book, reading, level store and ceiling can be asked as well (their
-//! arguments are in `generate::calls`).
+//! The second mode: the proved calls, linked into this program, so that single
+//! calls with any book, reading, level store and ceiling can be asked.
 //!
-//! Until then no name is one of a linked library.
+//! A call is asked with the same arguments here and there, and all that it leaves
+//! must agree: whether the answer fitted, the answer's numbers, the output's bytes,
+//! the book's words and the records of the level store, those past what was written
+//! too.
 
-use crate::subject::Subject;
+use crate::disagreements;
+use generate::calls::{random_call, random_writing, Call, Writing};
+use generate::damage::damaged;
+use generate::rules::random_rule;
+use generate::{Inputs, Prng};
+use host::{Store, Tables, ANSWER};
+use reader::check::take_apart;
+use reader::{End, Fed, Level, Outcome, Reading, Refusal, Rule};
+use std::collections::BTreeMap;
+use std::fmt::Debug;
+use std::time::Instant;
 
-/// The linked library of this name.
-pub fn subject(_name: &str) -> Option<Box<dyn Subject>> {
-    None
+/// What a call leaves.
+#[derive(Debug, Default, PartialEq)]
+struct Left {
+    fitted: bool,
+    answer: Vec<u64>,
+    output: Vec<u8>,
+    book: Vec<u64>,
+    store: Vec<Level>,
+}
+
+impl Left {
+    /// An answer's numbers in front of what the slice held; a slice that is too
+    /// short for them stays.
+    fn by(numbers: Vec<u64>, held: &[u64]) -> Left {
+        let fitted = numbers.len() <= held.len();
+        let mut answer = held.to_vec();
+        if fitted {
+            answer[..numbers.len()].copy_from_slice(&numbers);
+        }
+        Left { fitted, answer, ..Left::default() }
+    }
+}
+
+/// The number of the refusal or 0, its place or 0, and then the values.
+fn numbers<T>(answer: Result<T, Refusal>, values: impl Fn(T) -> Vec<u64>) -> Vec<u64> {
+    match answer {
+        Ok(given) => [vec![0, 0], values(given)].concat(),
+        Err(refusal) => vec![refusal.number as u64, refusal.place],
+    }
+}
+
+fn reading_values(reading: Reading) -> Vec<u64> {
+    let counts = [reading.depth, reading.skip, reading.taken, reading.looks];
+    [vec![reading.state as u64], counts.map(u64::from).to_vec()].concat()
+}
+
+fn fed_numbers(fed: Fed) -> Vec<u64> {
+    let (number, place) = match fed.outcome {
+        Outcome::AllTaken => (0, 0),
+        Outcome::Refused(refusal) => (refusal.number as u64, refusal.place),
+    };
+    [vec![number, place, fed.took as u64], reading_values(fed.reading)].concat()
+}
+
+fn end_numbers(end: End) -> Vec<u64> {
+    match end {
+        End::Verdict(verdict, state) => vec![0, 0, verdict as u64, state as u64],
+        End::Refused(refusal) => vec![refusal.number as u64, refusal.place],
+    }
+}
+
+/// The calls compared, counted by their names.
+struct Comparison {
+    seed: u64,
+    index: u64,
+    agreements: BTreeMap<&'static str, u64>,
+    /// How often each number was given, 0 for none.
+    given: BTreeMap<u64, u64>,
+    too_short: u64,
+}
+
+impl Comparison {
+    /// What the call left against what the second reading says.
+    fn same(
+        &mut self,
+        name: &'static str,
+        arguments: &dyn Debug,
+        expected: Left,
+        found: Left,
+    ) -> Result<(), String> {
+        if expected != found {
+            let text = format!(
+                "{name}\n\narguments\n{arguments:?}\n\nexpected\n{expected:?}\n\nfound\n{found:?}\n"
+            );
+            let saved = disagreements::save(
+                &format!("linked-seed{}-{}", self.seed, self.index),
+                &[("call", text.as_bytes())],
+            );
+            return Err(format!("arguments {} of seed {}: {name}; {saved}", self.index, self.seed));
+        }
+        *self.agreements.entry(name).or_default() += 1;
+        if expected.fitted {
+            *self.given.entry(expected.answer[0]).or_default() += 1;
+        } else {
+            self.too_short += 1;
+        }
+        Ok(())
+    }
+
+    fn check_rule(&mut self, file: &[u8], held: &[u64]) -> Result<(), String> {
+        let values = |rule: Rule| {
+            let tree_start = rule.tree_start.map_or(Rule::NONE as u64, |state| state as u64);
+            vec![rule.n as u64, rule.initial as u64, tree_start, rule.k as u64]
+        };
+        let expected = Left::by(numbers(Rule::from_file(file), values), held);
+        let mut answer = held.to_vec();
+        let fitted = host::check_rule(file, &mut answer);
+        let found = Left { fitted, answer, ..Left::default() };
+        self.same("rule check", &(file, held), expected, found)
+    }
+
+    fn fresh(&mut self, file: &[u8], held: &[u64]) -> Result<(), String> {
+        let expected = Left::by(numbers(reader::fresh(file), reading_values), held);
+        let mut answer = held.to_vec();
+        let fitted = host::fresh(file, &mut answer);
+        let found = Left { fitted, answer, ..Left::default() };
+        self.same("fresh", &(file, held), expected, found)
+    }
+
+    fn make_book(&mut self, file: &[u8], book: &[u64], held: &[u64]) -> Result<(), String> {
+        let mut words = book.to_vec();
+        let made = reader::make_book(file, &mut words);
+        let expected =
+            Left { book: words, ..Left::by(numbers(made, |still| vec![still as u64]), held) };
+        let (mut book_after, mut answer) = (book.to_vec(), held.to_vec());
+        let fitted = host::make_book(file, &mut book_after, &mut answer);
+        let found = Left { fitted, answer, book: book_after, ..Left::default() };
+        self.same("maker", &(file, book, held), expected, found)
+    }
+
+    fn write_rule(&mut self, writing: &Writing, output: &[u8], held: &[u64]) -> Result<(), String> {
+        let mut bytes = output.to_vec();
+        let written = reader::write_rule(
+            writing.n,
+            writing.initial,
+            writing.tree_start,
+            writing.k,
+            &writing.letter_moves,
+            &writing.tree_moves,
+            &writing.classes,
+            &mut bytes,
+        );
+        let expected =
+            Left { output: bytes, ..Left::by(numbers(written, |count| vec![count as u64]), held) };
+        let tables = Tables {
+            n: writing.n,
+            initial: writing.initial,
+            tree_start: writing.tree_start,
+            k: writing.k,
+            letter_moves: &writing.letter_moves,
+            tree_moves: &writing.tree_moves,
+            classes: &writing.classes,
+        };
+        let (mut output_after, mut answer) = (output.to_vec(), held.to_vec());
+        let fitted = host::write_rule(tables, &mut output_after, &mut answer);
+        let found = Left { fitted, answer, output: output_after, ..Left::default() };
+        self.same("writer", &(writing, output, held), expected, found)
+    }
+
+    /// Feeding, and finishing what it was given and what it left.
+    fn feed_and_finish(&mut self, call: &Call, held: &[u64]) -> Result<(), String> {
+        let mut store = call.store.clone();
+        let fed = reader::feed(
+            &call.rule_file,
+            &call.book,
+            call.reading,
+            &mut store,
+            &call.events,
+            call.ceiling,
+        );
+        let expected = Left { store: store.clone(), ..Left::by(fed_numbers(fed), held) };
+        let found = feed_linked(call, call.reading, &call.store, &call.events, held);
+        self.same("feed", &(call, held), expected, found)?;
+        self.finish(call, call.reading, &call.store, held)?;
+        self.finish(call, fed.reading, &store, held)
+    }
+
+    fn finish(
+        &mut self,
+        call: &Call,
+        reading: Reading,
+        store: &[Level],
+        held: &[u64],
+    ) -> Result<(), String> {
+        let (file, book) = (&call.rule_file, &call.book);
+        let end = reader::finish(file, book, reading, store);
+        let expected = Left { store: store.to_vec(), ..Left::by(end_numbers(end), held) };
+        let (lent, mut answer) = (Store::new(store), held.to_vec());
+        let fitted = host::finish(file, book, reading, &lent, &mut answer);
+        let found = Left { fitted, answer, store: lent.levels(), ..Left::default() };
+        self.same("finish", &(file, book, reading, store, held), expected, found)
+    }
+
+    /// The first events and then the rest against all at once: the linked calls
+    /// against themselves, where the first feed is not refused.
+    fn split_feeds(&mut self, call: &Call, first: usize) -> Result<(), String> {
+        let held = [0; ANSWER];
+        let (front, rest) = call.events.split_at(first);
+        let before = feed_linked(call, call.reading, &call.store, front, &held);
+        if before.answer[0] != 0 {
+            return Ok(());
+        }
+        let between = Reading {
+            state: before.answer[3] as u8,
+            depth: before.answer[4] as u32,
+            skip: before.answer[5] as u32,
+            taken: before.answer[6] as u32,
+            looks: before.answer[7] as u32,
+        };
+        let mut found = feed_linked(call, between, &before.store, rest, &held);
+        found.answer[2] += before.answer[2];
+        let expected = feed_linked(call, call.reading, &call.store, &call.events, &held);
+        self.same("split feeds", &(call, first), expected, found)
+    }
+
+    fn read_document(&mut self, call: &Call, book: &[u64], held: &[u64]) -> Result<(), String> {
+        let (file, events) = (&call.rule_file, &call.events);
+        let (mut words, mut store) = (book.to_vec(), call.store.clone());
+        let end = reader::whole(file, &mut words, &mut store, events);
+        let expected = Left { book: words, store, ..Left::by(end_numbers(end), held) };
+        let (mut book_after, mut lent) = (book.to_vec(), Store::new(&call.store));
+        let mut answer = held.to_vec();
+        let fitted = host::read_document(file, &mut book_after, &mut lent, events, &mut answer);
+        let found =
+            Left { fitted, answer, book: book_after, store: lent.levels(), ..Left::default() };
+        self.same("whole document", &(call, book, held), expected, found)
+    }
+
+    /// All calls, with the arguments of one index.
+    fn ask(&mut self) -> Result<(), String> {
+        let mut rng = Prng::new(self.seed, self.index);
+        let call = random_call(&mut rng);
+        let held = random_held(&mut rng);
+        self.feed_and_finish(&call, &held)?;
+        self.split_feeds(&call, rng.below(call.events.len() + 1))?;
+        self.fresh(&call.rule_file, &held)?;
+        let book = random_words(&mut rng, call.book.len());
+        self.read_document(&call, &book, &held)?;
+
+        let rule = random_rule(&mut rng);
+        let good = rule.to_file();
+        let file = if rng.chance(70) { damaged(&mut rng, &good) } else { good };
+        self.check_rule(&file, &held)?;
+        let words = rng.weighted(&[(70, rule.n + 1), (10, rule.n), (10, rule.n + 4), (10, 66)]);
+        let book = random_words(&mut rng, words);
+        let file = if rng.chance(95) { rule.to_file() } else { file };
+        self.make_book(&file, &book, &held)?;
+
+        let writing = random_writing(&mut rng);
+        let output: Vec<u8> = (0..writing.room).map(|_| rng.word() as u8).collect();
+        self.write_rule(&writing, &output, &held)
+    }
+
+    /// The cases printed in document 01, as whole documents and in full.
+    fn ask_printed(&mut self) -> Result<(), String> {
+        let inputs = Inputs::new(self.seed);
+        for index in 0..inputs.printed() as u64 {
+            self.index = index;
+            let input = inputs.get(index);
+            let Ok(parts) = take_apart(&input) else { continue };
+            let call = Call {
+                rule_file: parts.rule_file.to_vec(),
+                book: vec![0; parts.rule.n + 1],
+                reading: reader::fresh(parts.rule_file).expect("the rule was checked"),
+                store: vec![Level::default(); 1024],
+                events: parts.events,
+                ceiling: u32::MAX,
+            };
+            self.read_document(&call, &call.book, &[0; ANSWER])?;
+            self.feed_and_finish(&call, &[0; ANSWER])?;
+        }
+        Ok(())
+    }
+}
+
+/// The linked feed, with the rule, book and ceiling of a call.
+fn feed_linked(
+    call: &Call,
+    reading: Reading,
+    store: &[Level],
+    events: &[u16],
+    held: &[u64],
+) -> Left {
+    let (mut lent, mut answer) = (Store::new(store), held.to_vec());
+    let fitted = host::feed(
+        &call.rule_file,
+        &call.book,
+        call.ceiling,
+        reading,
+        &mut lent,
+        events,
+        &mut answer,
+    );
+    Left { fitted, answer, store: lent.levels(), ..Left::default() }
+}
+
+/// What a lent answer holds before a call; too short at times.
+fn random_held(rng: &mut Prng) -> Vec<u64> {
+    let length = if rng.chance(90) { rng.between(ANSWER, 11) } else { rng.below(ANSWER) };
+    random_words(rng, length)
+}
+
+fn random_words(rng: &mut Prng, count: usize) -> Vec<u64> {
+    (0..count).map(|_| rng.word()).collect()
+}
+
+/// The arguments 0 to `count`−1 of the seed, after the printed cases.
+pub fn run(count: u64, seed: u64) -> Result<(), String> {
+    let began = Instant::now();
+    let mut comparison = Comparison {
+        seed,
+        index: 0,
+        agreements: BTreeMap::new(),
+        given: BTreeMap::new(),
+        too_short: 0,
+    };
+    comparison.ask_printed()?;
+    for index in 0..count {
+        comparison.index = index;
+        comparison.ask()?;
+    }
+    for (name, agreements) in &comparison.agreements {
+        println!("{name}: {agreements}");
+    }
+    let given: Vec<String> =
+        comparison.given.iter().map(|(number, times)| format!("{number}: {times}")).collect();
+    println!("numbers given, 0 for none: {}", given.join(", "));
+    println!("answers too short: {}", comparison.too_short);
+    println!(
+        "{} agreements ({count} arguments of seed {seed}, {:.1} s)",
+        comparison.agreements.values().sum::<u64>(),
+        began.elapsed().as_secs_f64()
+    );
+    Ok(())
 }

@@ -1,0 +1,343 @@
+//! Plain safe Rust with the same answers: tables in vectors, one event after the
+//! other, the maker with a vector of marks or with words. Written as one would
+//! without a proof in mind, and checked against the second reading before anything
+//! is measured.
+
+use reader::{Fed, Level, Outcome, Reading, Refusal};
+
+/// A rule in flat tables.
+pub struct Table {
+    pub n: usize,
+    pub k: usize,
+    pub initial: u8,
+    pub tree_start: u8,
+    pub letter_moves: Vec<u8>,
+    pub tree_moves: Vec<u8>,
+    pub classes: Vec<u8>,
+}
+
+pub const NONE: u8 = 255;
+const HEADER: usize = 6;
+const OPEN: u16 = 0;
+const CLOSE: u16 = 1;
+
+impl Table {
+    /// The rule check.
+    pub fn from_file(file: &[u8]) -> Result<Table, Refusal> {
+        let refuse = |number, place: usize| Err(Refusal::new(number, place as u64));
+        let numbers = body(file, 0, 1, 5)?;
+        let n = numbers[0] as usize;
+        if n == 0 || n > 64 {
+            return refuse(4, HEADER);
+        }
+        let initial = numbers[1];
+        if initial as usize >= n {
+            return refuse(4, HEADER + 1);
+        }
+        let tree_start = numbers[2];
+        if tree_start as usize >= n && tree_start != NONE {
+            return refuse(4, HEADER + 2);
+        }
+        let k = u16::from_le_bytes([numbers[3], numbers[4]]) as usize;
+        if k == 0 || k > 256 {
+            return refuse(4, HEADER + 3);
+        }
+
+        let mut at = HEADER + 5;
+        let mut tables = Vec::new();
+        for (kind, size) in [(2, n * k), (3, n * n), (4, n)] {
+            let bytes = body(file, at, kind, size)?;
+            let bad = match kind {
+                4 => bytes.iter().position(|&class| class > 2),
+                _ => bytes.iter().position(|&to| to as usize >= n && to != NONE),
+            };
+            if let Some(bad) = bad {
+                return refuse(4, at + HEADER + bad);
+            }
+            tables.push(bytes.to_vec());
+            at += HEADER + size;
+        }
+        if at < file.len() {
+            return refuse(5, at);
+        }
+        let classes = tables.pop().expect("three tables");
+        let tree_moves = tables.pop().expect("three tables");
+        let letter_moves = tables.pop().expect("three tables");
+        Ok(Table { n, k, initial, tree_start, letter_moves, tree_moves, classes })
+    }
+
+    fn letter_move(&self, state: u8, letter: usize) -> u8 {
+        self.letter_moves[state as usize * self.k + letter]
+    }
+
+    fn tree_move(&self, upper: u8, lower: u8) -> u8 {
+        self.tree_moves[upper as usize * self.n + lower as usize]
+    }
+}
+
+/// The body of the record at a place.
+fn body(file: &[u8], at: usize, kind: u16, size: usize) -> Result<&[u8], Refusal> {
+    let refuse = |number, place: usize| Err(Refusal::new(number, place as u64));
+    let rest = &file[at..];
+    if rest.len() < HEADER {
+        return refuse(1, file.len());
+    }
+    if u16::from_le_bytes([rest[4], rest[5]]) != kind {
+        return refuse(2, at + 4);
+    }
+    if u32::from_le_bytes([rest[0], rest[1], rest[2], rest[3]]) as usize != size {
+        return refuse(3, at);
+    }
+    rest.get(HEADER..HEADER + size).ok_or(Refusal::new(1, file.len() as u64))
+}
+
+fn bit(word: u64, state: u8) -> bool {
+    word >> state & 1 == 1
+}
+
+/// Feeding, with a book.
+pub fn feed(
+    file: &[u8],
+    book: &[u64],
+    reading: Reading,
+    store: &mut [Level],
+    events: &[u16],
+    ceiling: u32,
+) -> Fed {
+    let refused = |took, reading, number, place| Fed {
+        took,
+        reading,
+        outcome: Outcome::Refused(Refusal::new(number, place)),
+    };
+    let table = match Table::from_file(file) {
+        Ok(table) => table,
+        Err(refusal) => return refused(0, reading, refusal.number, refusal.place),
+    };
+    if book.len() < table.n + 1 {
+        return refused(0, reading, 6, 0);
+    }
+    if !is_reading(&table, book, &reading, store) {
+        return refused(0, reading, 13, 0);
+    }
+    let mut now = reading;
+    for (took, &event) in events.iter().enumerate() {
+        if let Err(number) = take(&table, book, &mut now, store, event, ceiling) {
+            return refused(took, now, number, now.taken as u64);
+        }
+    }
+    Fed { took: events.len(), reading: now, outcome: Outcome::AllTaken }
+}
+
+fn is_reading(table: &Table, book: &[u64], reading: &Reading, store: &[Level]) -> bool {
+    let depth = reading.depth as usize;
+    if reading.state as usize >= table.n || depth > store.len() {
+        return false;
+    }
+    if store[..depth].iter().any(|level| level.state as usize >= table.n) {
+        return false;
+    }
+    let held = depth > 0 && bit(book[1 + store[depth - 1].state as usize], reading.state);
+    if reading.skip > 0 && !held && !bit(book[0], reading.state) {
+        return false;
+    }
+    let nesting = reading.depth as u64 + reading.skip as u64;
+    nesting <= reading.taken as u64 && reading.looks <= reading.taken
+}
+
+/// One event.
+fn take(
+    table: &Table,
+    book: &[u64],
+    now: &mut Reading,
+    store: &mut [Level],
+    event: u16,
+    ceiling: u32,
+) -> Result<(), u8> {
+    if now.taken == u32::MAX {
+        return Err(16);
+    }
+    if event as usize >= table.k + 2 {
+        return Err(10);
+    }
+    let depth = now.depth as usize;
+    if event == CLOSE && depth == 0 && now.skip == 0 {
+        return Err(7);
+    }
+
+    let upper = if depth > 0 { Some(store[depth - 1].state) } else { None };
+    let held = upper.is_some_and(|u| bit(book[1 + u as usize], now.state));
+    if held || bit(book[0], now.state) {
+        if event == OPEN {
+            now.skip += 1;
+            now.taken += 1;
+            return Ok(());
+        }
+        if event != CLOSE {
+            now.taken += 1;
+            return Ok(());
+        }
+        if now.skip > 0 {
+            now.skip -= 1;
+            now.taken += 1;
+            return Ok(());
+        }
+        if let (true, Some(u)) = (held, upper) {
+            now.state = u;
+            now.depth -= 1;
+            now.taken += 1;
+            return Ok(());
+        }
+    }
+
+    if event == OPEN && depth >= store.len() {
+        return Err(8);
+    }
+    if now.looks >= ceiling {
+        return Err(9);
+    }
+    let to = match (event, upper) {
+        (OPEN, _) => table.tree_start,
+        (CLOSE, Some(u)) => table.tree_move(u, now.state),
+        (CLOSE, None) => return Err(7),
+        _ => table.letter_move(now.state, event as usize - 2),
+    };
+    if to == NONE {
+        return Err(11);
+    }
+    if event == OPEN {
+        store[depth] = Level { state: now.state, place: now.taken };
+        now.depth += 1;
+    } else if event == CLOSE {
+        now.depth -= 1;
+    }
+    now.state = to;
+    now.looks += 1;
+    now.taken += 1;
+    Ok(())
+}
+
+/// Full reading alone, from a fresh reading and with no book in sight: what one
+/// would write who never skips.
+pub fn read_in_full(file: &[u8], store: &mut [Level], events: &[u16]) -> Fed {
+    let fed = |took, state, depth, outcome| Fed {
+        took,
+        reading: Reading { state, depth, skip: 0, taken: took as u32, looks: took as u32 },
+        outcome,
+    };
+    let table = match Table::from_file(file) {
+        Ok(table) => table,
+        Err(refusal) => return fed(0, 0, 0, Outcome::Refused(refusal)),
+    };
+    let mut state = table.initial;
+    let mut depth = 0;
+    for (took, &event) in events.iter().enumerate() {
+        let refused = |number| {
+            fed(took, state, depth as u32, Outcome::Refused(Refusal::new(number, took as u64)))
+        };
+        if event as usize >= table.k + 2 {
+            return refused(10);
+        }
+        let to = match event {
+            OPEN if depth >= store.len() => return refused(8),
+            OPEN => table.tree_start,
+            CLOSE if depth == 0 => return refused(7),
+            CLOSE => table.tree_move(store[depth - 1].state, state),
+            _ => table.letter_move(state, event as usize - 2),
+        };
+        if to == NONE {
+            return refused(11);
+        }
+        match event {
+            OPEN => {
+                store[depth] = Level { state, place: took as u32 };
+                depth += 1;
+            }
+            CLOSE => depth -= 1,
+            _ => {}
+        }
+        state = to;
+    }
+    fed(events.len(), state, depth as u32, Outcome::AllTaken)
+}
+
+/// The maker over a vector of marks for each state.
+pub fn make_book_by_marks(file: &[u8], book: &mut [u64]) -> Result<u32, Refusal> {
+    let table = Table::from_file(file)?;
+    let n = table.n;
+    if book.len() < n + 1 {
+        return Err(Refusal::new(6, 0));
+    }
+    let mut reach = vec![vec![false; n]; n];
+    for q in 0..n {
+        let mut waiting = vec![q];
+        reach[q][q] = true;
+        while let Some(p) = waiting.pop() {
+            let letters = &table.letter_moves[p * table.k..(p + 1) * table.k];
+            let trees = &table.tree_moves[p * n..(p + 1) * n];
+            for &to in letters.iter().chain(trees) {
+                if to != NONE && !reach[q][to as usize] {
+                    reach[q][to as usize] = true;
+                    waiting.push(to as usize);
+                }
+            }
+        }
+    }
+    let still = |q: usize| (0..n).all(|p| !reach[q][p] || p == q);
+    let holds = |u: usize, p: usize| {
+        (0..n).all(|low| {
+            let to = table.tree_move(u as u8, low as u8);
+            !reach[p][low] || to == NONE || to as usize == u
+        })
+    };
+    book[0] = (0..n).filter(|&q| still(q)).map(|q| 1 << q).sum();
+    for u in 0..n {
+        book[1 + u] = (0..n).filter(|&p| holds(u, p)).map(|p| 1 << p).sum();
+    }
+    Ok(book[0].count_ones())
+}
+
+/// The maker over a word for each state: rounds of `or` until none adds a state.
+pub fn make_book_by_words(file: &[u8], book: &mut [u64]) -> Result<u32, Refusal> {
+    let table = Table::from_file(file)?;
+    let n = table.n;
+    if book.len() < n + 1 {
+        return Err(Refusal::new(6, 0));
+    }
+    let set =
+        |moves: &[u8]| moves.iter().filter(|&&to| to != NONE).fold(0u64, |set, &to| set | 1 << to);
+    let mut reach: Vec<u64> = (0..n)
+        .map(|q| {
+            let letters = &table.letter_moves[q * table.k..(q + 1) * table.k];
+            1 << q | set(letters) | set(&table.tree_moves[q * n..(q + 1) * n])
+        })
+        .collect();
+    loop {
+        let next: Vec<u64> = reach
+            .iter()
+            .map(|&from| (0..n).filter(|q| from >> q & 1 == 1).fold(from, |all, q| all | reach[q]))
+            .collect();
+        if next == reach {
+            break;
+        }
+        reach = next;
+    }
+    book[0] = (0..n).filter(|&q| reach[q] == 1 << q).map(|q| 1 << q).sum();
+    for u in 0..n {
+        let row = &table.tree_moves[u * n..(u + 1) * n];
+        let changes = (0..n)
+            .filter(|&low| row[low] != NONE && row[low] as usize != u)
+            .fold(0u64, |set, low| set | 1 << low);
+        book[1 + u] = (0..n).filter(|&p| reach[p] & changes == 0).map(|p| 1 << p).sum();
+    }
+    Ok(book[0].count_ones())
+}
+
+/// The memory limit: each event is read and added up.
+pub fn sum(events: &[u16]) -> u64 {
+    events.iter().map(|&event| event as u64).sum()
+}
+
+/// The same of bytes.
+pub fn sum_bytes(bytes: &[u8]) -> u64 {
+    bytes.iter().map(|&byte| byte as u64).sum()
+}

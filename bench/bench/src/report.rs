@@ -1,0 +1,190 @@
+//! The tables, in Markdown, and how far the goals are met.
+
+use std::fmt::Write;
+
+/// Full reading, nanoseconds for an event.
+pub struct Full {
+    pub name: &'static str,
+    pub size: usize,
+    pub proved: f64,
+    pub with_book: f64,
+    pub alone: f64,
+    pub sum: f64,
+}
+
+/// Passing over, nanoseconds for an event.
+pub struct Passing {
+    pub name: &'static str,
+    pub size: usize,
+    pub proved: f64,
+    pub full: f64,
+    pub safe: f64,
+    pub sum: f64,
+}
+
+/// A single call, nanoseconds.
+pub struct Call {
+    pub name: &'static str,
+    pub safe: &'static str,
+    pub proved: f64,
+    pub plain: f64,
+    pub sum: f64,
+}
+
+pub struct Report {
+    pub repetitions: usize,
+    pub full: Vec<Full>,
+    pub passing: Vec<Passing>,
+    pub calls: Vec<Call>,
+}
+
+const BEGIN: &str = "<!-- measured -->\n";
+const END: &str = "<!-- end -->\n";
+
+impl Report {
+    /// Puts the tables between the two lines of the file.
+    pub fn write_into(&self, path: &str) -> Result<(), String> {
+        let text = std::fs::read_to_string(path).map_err(|error| error.to_string())?;
+        let (before, rest) = text.split_once(BEGIN).ok_or("no line says where to begin")?;
+        let (_, after) = rest.split_once(END).ok_or("no line says where to end")?;
+        let text = format!("{before}{BEGIN}\n{}\n{END}{after}", self.markdown());
+        std::fs::write(path, text).map_err(|error| error.to_string())
+    }
+
+    fn markdown(&self) -> String {
+        let mut text = String::new();
+        self.write(&mut text).expect("a string takes what is written");
+        text
+    }
+
+    fn write(&self, text: &mut String) -> std::fmt::Result {
+        writeln!(
+            text,
+            "Processor: {}. Medians of {} repetitions, in which the columns take turns.\n",
+            processor(),
+            self.repetitions
+        )?;
+
+        writeln!(text, "### Full reading, nanoseconds for an event\n")?;
+        writeln!(text, "| input | events | proved | safe Rust with a book | its time / proved | safe Rust, full reading alone | its time / proved | plain sum |")?;
+        writeln!(text, "|---|---:|---:|---:|---:|---:|---:|---:|")?;
+        for row in &self.full {
+            writeln!(
+                text,
+                "| {} | {} | {:.2} | {:.2} | {:.2} | {:.2} | {:.2} | {:.3} |",
+                row.name,
+                counted(row.size),
+                row.proved,
+                row.with_book,
+                row.with_book / row.proved,
+                row.alone,
+                row.alone / row.proved,
+                row.sum
+            )?;
+        }
+
+        writeln!(text, "\n### Passing over, nanoseconds for an event\n")?;
+        writeln!(text, "| input | events | proved | plain sum | proved / sum | the same in full, proved | full / passing | safe Rust | its time / proved |")?;
+        writeln!(text, "|---|---:|---:|---:|---:|---:|---:|---:|---:|")?;
+        for row in &self.passing {
+            writeln!(
+                text,
+                "| {} | {} | {:.3} | {:.3} | {:.2} | {:.2} | {:.1} | {:.2} | {:.2} |",
+                row.name,
+                counted(row.size),
+                row.proved,
+                row.sum,
+                row.proved / row.sum,
+                row.full,
+                row.full / row.proved,
+                row.safe,
+                row.safe / row.proved
+            )?;
+        }
+
+        writeln!(text, "\n### Single calls, n 64 and k 256, microseconds for a call\n")?;
+        writeln!(text, "| call | proved | safe Rust | its time / proved | safe Rust over | plain sum of the file's bytes |")?;
+        writeln!(text, "|---|---:|---:|---:|---|---:|")?;
+        for row in &self.calls {
+            writeln!(
+                text,
+                "| {} | {:.1} | {:.1} | {:.2} | {} | {:.2} |",
+                row.name,
+                row.proved / 1000.0,
+                row.plain / 1000.0,
+                row.plain / row.proved,
+                row.safe,
+                row.sum / 1000.0
+            )?;
+        }
+
+        writeln!(text, "\n### Goals\n")?;
+        writeln!(text, "| goal | measured, the worst of the rows | met |")?;
+        writeln!(text, "|---|---|---|")?;
+        for (goal, measured, met) in self.goals() {
+            writeln!(text, "| {goal} | {measured} | {} |", if met { "yes" } else { "no" })?;
+        }
+        Ok(())
+    }
+
+    fn goals(&self) -> Vec<(&'static str, String, bool)> {
+        let least = |ratios: Vec<f64>| ratios.into_iter().fold(f64::INFINITY, f64::min);
+        let with_book = least(self.full.iter().map(|row| row.with_book / row.proved).collect());
+        let alone = least(self.full.iter().map(|row| row.alone / row.proved).collect());
+        let deep: Vec<&Passing> =
+            self.passing.iter().filter(|row| row.name == "a deep part").collect();
+        let times_sum =
+            1.0 / least(deep.iter().map(|row| row.sum / row.proved).collect::<Vec<f64>>());
+        let times_full = least(deep.iter().map(|row| row.full / row.proved).collect());
+        let makers = self.calls.iter().filter(|row| row.name.starts_with("the maker"));
+        let maker = makers.map(|row| row.proved).fold(0.0, f64::max) / 1_000_000.0;
+        vec![
+            (
+                "full reading at least as fast as safe Rust with a book",
+                format!("safe Rust takes {with_book:.2} times as long"),
+                with_book >= 1.0,
+            ),
+            (
+                "full reading at least as fast as safe Rust that never skips",
+                format!("safe Rust takes {alone:.2} times as long"),
+                alone >= 1.0,
+            ),
+            (
+                "passing over a deep part within twice the memory limit",
+                format!("{times_sum:.2} times the plain sum"),
+                times_sum <= 2.0,
+            ),
+            (
+                "passing over a deep part at least 20 times as fast as full reading",
+                format!("{times_full:.1} times as fast"),
+                times_full >= 20.0,
+            ),
+            ("the maker under 1 ms at n 64 and k 256", format!("{maker:.3} ms"), maker < 1.0),
+        ]
+    }
+}
+
+/// 10,000,000.
+fn counted(number: usize) -> String {
+    let digits = number.to_string();
+    let mut text = String::new();
+    for (index, digit) in digits.chars().enumerate() {
+        if index > 0 && (digits.len() - index).is_multiple_of(3) {
+            text.push(',');
+        }
+        text.push(digit);
+    }
+    text
+}
+
+/// The processor's kind, as the system tells it.
+fn processor() -> String {
+    let info = std::fs::read_to_string("/proc/cpuinfo").unwrap_or_default();
+    let field = |name: &str| {
+        let line = info.lines().find(|line| line.starts_with(name))?;
+        Some(line.split_once(':')?.1.trim().to_string())
+    };
+    let model = field("model name").unwrap_or("unknown".into());
+    let size = field("cache size").map_or(String::new(), |size| format!(", cache {size}"));
+    format!("{model}{size}")
+}

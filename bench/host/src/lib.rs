@@ -1,0 +1,297 @@
+//! The proved calls, linked from `target/staticlib/libhost.a`, as safe functions.
+//!
+//! Each call lays its answer into a lent slice of numbers: the number of the
+//! refusal or 0, its place or 0, and then the values that were given. It returns
+//! whether they fitted; into a slice that is too short nothing is laid.
+//!
+//! To the calls a slice is a pointer and a length, one after the other. Nothing is
+//! asked of a caller but that the slices are slices and those written to are apart
+//! from the others, which Rust's references say.
+
+use reader::{Level, Reading};
+
+/// Room enough for the answer of every call.
+pub const ANSWER: usize = 8;
+
+/// A level store as the calls are lent it: two slices, the state above each level
+/// and the place of its opening.
+#[derive(Clone, Debug)]
+pub struct Store {
+    states: Vec<u8>,
+    places: Vec<u32>,
+}
+
+impl Store {
+    pub fn new(levels: &[Level]) -> Store {
+        Store {
+            states: levels.iter().map(|level| level.state).collect(),
+            places: levels.iter().map(|level| level.place).collect(),
+        }
+    }
+
+    pub fn levels(&self) -> Vec<Level> {
+        let records = self.states.iter().zip(&self.places);
+        records.map(|(&state, &place)| Level { state, place }).collect()
+    }
+}
+
+/// The numbers and tables that the writer is given.
+#[derive(Clone, Copy, Debug)]
+pub struct Tables<'a> {
+    pub n: u8,
+    pub initial: u8,
+    pub tree_start: u8,
+    pub k: u16,
+    pub letter_moves: &'a [u8],
+    pub tree_moves: &'a [u8],
+    pub classes: &'a [u8],
+}
+
+mod exported {
+    unsafe extern "C" {
+        pub fn venticapro_check_rule(
+            file: *const u8,
+            file_length: usize,
+            answer: *mut u64,
+            answer_length: usize,
+        ) -> bool;
+
+        pub fn venticapro_write_rule(
+            states: u8,
+            initial: u8,
+            tree_start: u8,
+            letters: u16,
+            letter_moves: *const u8,
+            letter_moves_length: usize,
+            tree_moves: *const u8,
+            tree_moves_length: usize,
+            classes: *const u8,
+            classes_length: usize,
+            output: *mut u8,
+            output_length: usize,
+            answer: *mut u64,
+            answer_length: usize,
+        ) -> bool;
+
+        pub fn venticapro_make_book(
+            file: *const u8,
+            file_length: usize,
+            book: *mut u64,
+            book_length: usize,
+            answer: *mut u64,
+            answer_length: usize,
+        ) -> bool;
+
+        pub fn venticapro_fresh(
+            file: *const u8,
+            file_length: usize,
+            answer: *mut u64,
+            answer_length: usize,
+        ) -> bool;
+
+        pub fn venticapro_feed(
+            file: *const u8,
+            file_length: usize,
+            book: *const u64,
+            book_length: usize,
+            ceiling: u32,
+            state: u8,
+            depth: u32,
+            skip: u32,
+            taken: u32,
+            looks: u32,
+            states: *mut u8,
+            states_length: usize,
+            places: *mut u32,
+            places_length: usize,
+            events: *const u16,
+            events_length: usize,
+            answer: *mut u64,
+            answer_length: usize,
+        ) -> bool;
+
+        pub fn venticapro_finish(
+            file: *const u8,
+            file_length: usize,
+            book: *const u64,
+            book_length: usize,
+            state: u8,
+            depth: u32,
+            skip: u32,
+            taken: u32,
+            looks: u32,
+            states: *const u8,
+            states_length: usize,
+            places: *const u32,
+            places_length: usize,
+            answer: *mut u64,
+            answer_length: usize,
+        ) -> bool;
+
+        pub fn venticapro_read_document(
+            file: *const u8,
+            file_length: usize,
+            book: *mut u64,
+            book_length: usize,
+            states: *mut u8,
+            states_length: usize,
+            places: *mut u32,
+            places_length: usize,
+            events: *const u16,
+            events_length: usize,
+            answer: *mut u64,
+            answer_length: usize,
+        ) -> bool;
+    }
+}
+
+/// The rule check. Values: n, initial state, tree start, k.
+pub fn check_rule(file: &[u8], answer: &mut [u64]) -> bool {
+    // SAFETY: see the head of this file.
+    unsafe {
+        exported::venticapro_check_rule(
+            file.as_ptr(),
+            file.len(),
+            answer.as_mut_ptr(),
+            answer.len(),
+        )
+    }
+}
+
+/// The writer. Value: the count of bytes.
+pub fn write_rule(tables: Tables, output: &mut [u8], answer: &mut [u64]) -> bool {
+    // SAFETY: see the head of this file.
+    unsafe {
+        exported::venticapro_write_rule(
+            tables.n,
+            tables.initial,
+            tables.tree_start,
+            tables.k,
+            tables.letter_moves.as_ptr(),
+            tables.letter_moves.len(),
+            tables.tree_moves.as_ptr(),
+            tables.tree_moves.len(),
+            tables.classes.as_ptr(),
+            tables.classes.len(),
+            output.as_mut_ptr(),
+            output.len(),
+            answer.as_mut_ptr(),
+            answer.len(),
+        )
+    }
+}
+
+/// The maker. Value: how many states are still.
+pub fn make_book(file: &[u8], book: &mut [u64], answer: &mut [u64]) -> bool {
+    // SAFETY: see the head of this file.
+    unsafe {
+        exported::venticapro_make_book(
+            file.as_ptr(),
+            file.len(),
+            book.as_mut_ptr(),
+            book.len(),
+            answer.as_mut_ptr(),
+            answer.len(),
+        )
+    }
+}
+
+/// A fresh reading. Values: state, stored depth, skip depth, events taken, looks.
+pub fn fresh(file: &[u8], answer: &mut [u64]) -> bool {
+    // SAFETY: see the head of this file.
+    unsafe {
+        exported::venticapro_fresh(file.as_ptr(), file.len(), answer.as_mut_ptr(), answer.len())
+    }
+}
+
+/// Feeding. Values: how many events it took, and the reading after them.
+pub fn feed(
+    file: &[u8],
+    book: &[u64],
+    ceiling: u32,
+    reading: Reading,
+    store: &mut Store,
+    events: &[u16],
+    answer: &mut [u64],
+) -> bool {
+    // SAFETY: see the head of this file.
+    unsafe {
+        exported::venticapro_feed(
+            file.as_ptr(),
+            file.len(),
+            book.as_ptr(),
+            book.len(),
+            ceiling,
+            reading.state,
+            reading.depth,
+            reading.skip,
+            reading.taken,
+            reading.looks,
+            store.states.as_mut_ptr(),
+            store.states.len(),
+            store.places.as_mut_ptr(),
+            store.places.len(),
+            events.as_ptr(),
+            events.len(),
+            answer.as_mut_ptr(),
+            answer.len(),
+        )
+    }
+}
+
+/// The end of a reading. Values: the class of the verdict, the end state.
+pub fn finish(
+    file: &[u8],
+    book: &[u64],
+    reading: Reading,
+    store: &Store,
+    answer: &mut [u64],
+) -> bool {
+    // SAFETY: see the head of this file.
+    unsafe {
+        exported::venticapro_finish(
+            file.as_ptr(),
+            file.len(),
+            book.as_ptr(),
+            book.len(),
+            reading.state,
+            reading.depth,
+            reading.skip,
+            reading.taken,
+            reading.looks,
+            store.states.as_ptr(),
+            store.states.len(),
+            store.places.as_ptr(),
+            store.places.len(),
+            answer.as_mut_ptr(),
+            answer.len(),
+        )
+    }
+}
+
+/// A whole document. Values: the class of the verdict, the end state.
+pub fn read_document(
+    file: &[u8],
+    book: &mut [u64],
+    store: &mut Store,
+    events: &[u16],
+    answer: &mut [u64],
+) -> bool {
+    // SAFETY: see the head of this file.
+    unsafe {
+        exported::venticapro_read_document(
+            file.as_ptr(),
+            file.len(),
+            book.as_mut_ptr(),
+            book.len(),
+            store.states.as_mut_ptr(),
+            store.states.len(),
+            store.places.as_mut_ptr(),
+            store.places.len(),
+            events.as_ptr(),
+            events.len(),
+            answer.as_mut_ptr(),
+            answer.len(),
+        )
+    }
+}

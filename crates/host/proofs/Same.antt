@@ -1,0 +1,26 @@
+-- What a call lays is what its definition lists: the numbers of two answers that say the same are the same, so what is said of
+-- the one's is said of the other's.
+use mathlib.Core.Path.{_≡_, sym, ap}
+use mathlib.Core.Bool.{Bool}
+use mathlib.Core.List.{List}
+use Prim.Native.Nat.{ℕ}
+use Rattle.meaning.specs.Answers.{Answer}
+use Rattle.meaning.specs.FullReading.{Went}
+use Rattle.meaning.specs.Calls.{Stored, feedingSays}
+use Rattle.meaning.specs.declared.Fed.{Fed}
+use Rattle.meaning.specs.declared.Reading.{Reading}
+use Rattle.reading.specs.Feeding.{FedIs}
+use Rattle.host.specs.Numbers.{Laid, listed, fedNumbers, wentNumbers}
+
+pub laid-as : {numbers numbers′ held : List ℕ} {fitted : Bool} {held′ : List ℕ} → numbers ≡ numbers′
+    → Laid numbers held fitted held′ → Laid numbers′ held fitted held′
+laid-as e laid = rw (sym e) laid
+
+pub laid-says : {A : Type 0} (values : A → List ℕ) {a b : Answer A} {held : List ℕ} {fitted : Bool} {held′ : List ℕ} → a ≡ b
+    → Laid (listed values a) held fitted held′ → Laid (listed values b) held fitted held′
+laid-says values e laid = laid-as (ap (listed values) e) laid
+
+pub laid-fed : {w : Went Stored} {before : Reading} {r : Fed} {states places states′ places′ held : List ℕ} {fitted : Bool} {held′ : List ℕ}
+    → FedIs w before r states places states′ places′
+    → Laid (fedNumbers (feedingSays (r .ended)) (r .taken) (r .reading)) held fitted held′ → Laid (wentNumbers before w) held fitted held′
+laid-fed fed laid = rw (sym (fed .endedIs), sym (fed .takenIs), sym (fed .readingIs)) laid

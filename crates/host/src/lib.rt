@@ -1,0 +1,159 @@
+// What a host in C or Rust links: the calls of rule, book and reading on numbers and slices. Each call lays its answer into a
+// lent slice of 64-bit numbers: the number of the refusal or 0, its place or 0, and then the values that were given. It returns
+// whether they fitted: into a slice that is too short nothing is laid. Eight numbers are room enough for every call.
+mod answers;
+mod lay;
+
+use answers::lay_begun;
+use answers::lay_checked;
+use answers::lay_end;
+use answers::lay_fed;
+use answers::lay_made;
+use answers::lay_written;
+use book::make_book;
+use meaning::Reading;
+use reading::feed;
+use reading::finish;
+use reading::fresh;
+use reading::read_document;
+use rule::Rule;
+use rule::writer::write;
+ghost use mathlib.Core.Path.{_≡_};
+ghost use lib.ListN.{length};
+ghost use Rattle.meaning.specs.RuleFile.{ruleOf, writeCheck, outputAfter};
+ghost use Rattle.meaning.specs.SkipBook.{makeBook, bookAfter};
+ghost use Rattle.meaning.specs.Calls.{freshCall, feedCall, finishCall, wholeDocument};
+ghost use Rattle.rule.specs.Says.{checkAnswer};
+ghost use Rattle.rule.specs.Checks.{ruleFrom};
+ghost use Rattle.reading.specs.Store.{storeOf, Holds};
+ghost use Rattle.host.specs.Numbers.{Laid, listed, ruleValues, countValue, readingValues, judgedValues, wentNumbers, readingFrom};
+
+// The rule check: n, the initial state, the tree start and k.
+#[no_mangle]
+pub extern "C" fn venticapro_check_rule(file: &[u8], answer: &mut [u64]) -> bool
+    ensures { λ r. ⌜ Laid (listed ruleValues (checkAnswer (now (file .entry)))) (now (answer .entry)) r (now (answer .exit)) ⌝ }
+{
+    lay_checked(Rule::of_file(file), answer)
+}
+
+// The writer: the count of bytes, which lie in the output.
+#[no_mangle]
+pub extern "C" fn venticapro_write_rule(
+    states: u8,
+    initial: u8,
+    tree_start: u8,
+    letters: u16,
+    letter_moves: &[u8],
+    tree_moves: &[u8],
+    classes: &[u8],
+    output: &mut [u8],
+    answer: &mut [u64],
+) -> bool
+    ensures { λ r. ⌜ Laid (listed countValue (writeCheck (ruleFrom states initial «tree_start» letters (now («letter_moves» .entry)) (now («tree_moves» .entry)) (now (classes .entry))) (length (now (output .entry))))) (now (answer .entry)) r (now (answer .exit)) ⌝ }
+    ensures { λ _. ⌜ now (output .exit) ≡ outputAfter (writeCheck (ruleFrom states initial «tree_start» letters (now («letter_moves» .entry)) (now («tree_moves» .entry)) (now (classes .entry))) (length (now (output .entry)))) (ruleFrom states initial «tree_start» letters (now («letter_moves» .entry)) (now («tree_moves» .entry)) (now (classes .entry))) (now (output .entry)) ⌝ }
+{
+    let written = write(
+        states,
+        initial,
+        tree_start,
+        letters,
+        letter_moves,
+        tree_moves,
+        classes,
+        output,
+    );
+    lay_written(written, answer)
+}
+
+// The maker: how many states are still; the book lies in the words lent.
+#[no_mangle]
+pub extern "C" fn venticapro_make_book(file: &[u8], book: &mut [u64], answer: &mut [u64]) -> bool
+    ensures { λ r. ⌜ Laid (listed countValue (makeBook (now (file .entry)) (now (book .entry)))) (now (answer .entry)) r (now (answer .exit)) ⌝ }
+    ensures { λ _. ⌜ now (book .exit) ≡ bookAfter (makeBook (now (file .entry)) (now (book .entry))) (ruleOf (now (file .entry))) (now (book .entry)) ⌝ }
+{
+    lay_made(make_book(file, book), answer)
+}
+
+// A fresh reading: its state and its four counts.
+#[no_mangle]
+pub extern "C" fn venticapro_fresh(file: &[u8], answer: &mut [u64]) -> bool
+    ensures { λ r. ⌜ Laid (listed readingValues (freshCall (now (file .entry)))) (now (answer .entry)) r (now (answer .exit)) ⌝ }
+{
+    lay_begun(fresh(file), answer)
+}
+
+// Feeding: the events it took and the reading after them, also where an event is refused. The level store is lent as two
+// slices: the states above the levels, and the places of their openings.
+#[no_mangle]
+pub extern "C" fn venticapro_feed(
+    file: &[u8],
+    book: &[u64],
+    ceiling: u32,
+    state: u8,
+    depth: u32,
+    skip: u32,
+    taken: u32,
+    looks: u32,
+    states: &mut [u8],
+    places: &mut [u32],
+    events: &[u16],
+    answer: &mut [u64],
+) -> bool
+    ensures { λ r. ⌜ Laid (wentNumbers (readingFrom state depth skip taken looks) (feedCall (now (file .entry)) (now (book .entry)) ceiling (readingFrom state depth skip taken looks) (storeOf (now (states .entry)) (now (places .entry))) (now (events .entry)))) (now (answer .entry)) r (now (answer .exit)) ⌝ }
+    ensures { λ _. ⌜ Holds (feedCall (now (file .entry)) (now (book .entry)) ceiling (readingFrom state depth skip taken looks) (storeOf (now (states .entry)) (now (places .entry))) (now (events .entry)) .last .store) (now (states .entry)) (now (places .entry)) (now (states .exit)) (now (places .exit)) ⌝ }
+{
+    let reading = Reading {
+        state,
+        depth,
+        skip,
+        taken,
+        looks,
+    };
+    lay_fed(
+        feed(file, book, ceiling, reading, states, places, events),
+        answer,
+    )
+}
+
+// The end of a reading: the class of the verdict and the end state.
+#[no_mangle]
+pub extern "C" fn venticapro_finish(
+    file: &[u8],
+    book: &[u64],
+    state: u8,
+    depth: u32,
+    skip: u32,
+    taken: u32,
+    looks: u32,
+    states: &[u8],
+    places: &[u32],
+    answer: &mut [u64],
+) -> bool
+    ensures { λ r. ⌜ Laid (listed judgedValues (finishCall (now (file .entry)) (now (book .entry)) (readingFrom state depth skip taken looks) (storeOf (now (states .entry)) (now (places .entry))))) (now (answer .entry)) r (now (answer .exit)) ⌝ }
+{
+    let reading = Reading {
+        state,
+        depth,
+        skip,
+        taken,
+        looks,
+    };
+    lay_end(finish(file, book, reading, states, places), answer)
+}
+
+// A whole document: the class of the verdict and the end state.
+#[no_mangle]
+pub extern "C" fn venticapro_read_document(
+    file: &[u8],
+    book: &mut [u64],
+    states: &mut [u8],
+    places: &mut [u32],
+    events: &[u16],
+    answer: &mut [u64],
+) -> bool
+    ensures { λ r. ⌜ Laid (listed judgedValues (wholeDocument (now (file .entry)) (now (book .entry)) (storeOf (now (states .entry)) (now (places .entry))) (now (events .entry)) .answer)) (now (answer .entry)) r (now (answer .exit)) ⌝ }
+    ensures { λ _. ⌜ now (book .exit) ≡ wholeDocument (now (file .entry)) (now (book .entry)) (storeOf (now (states .entry)) (now (places .entry))) (now (events .entry)) .book ⌝ }
+    ensures { λ _. ⌜ Holds (wholeDocument (now (file .entry)) (now (book .entry)) (storeOf (now (states .entry)) (now (places .entry))) (now (events .entry)) .store) (now (states .entry)) (now (places .entry)) (now (states .exit)) (now (places .exit)) ⌝ }
+{
+    lay_end(read_document(file, book, states, places, events), answer)
+}
