@@ -1,7 +1,8 @@
 pub mod Turned
 pub mod Store
 pub mod Steps
-pub mod Going
+pub mod OneTurn
+pub mod FlatGoing
 pub mod Checks
 pub mod PassesOn
 pub mod WholeRead

@@ -4,3 +4,4 @@ pub mod Feeding
 pub mod Checks
 pub mod PassingOver
 pub mod Whole
+pub mod Advancing

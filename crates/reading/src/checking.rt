@@ -1,7 +1,7 @@
 // What feed and finish check first: the rule, the length of the book, and that the reading is one.
-use crate::levels::level_at;
-use crate::levels::room;
-use crate::levels::top_level;
+use crate::flat_levels::level_at;
+use crate::flat_levels::room;
+use crate::flat_levels::top_level;
 use crate::settling::is_held;
 use crate::settling::is_settled;
 use meaning::Level;

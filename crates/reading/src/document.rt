@@ -1,7 +1,7 @@
 // Reading a whole document: the events after the rule check and the maker.
 use crate::ending::end_of;
 use crate::feeding::feed_events;
-use crate::levels::top_level;
+use crate::flat_levels::top_level;
 use meaning::End;
 use meaning::Feeding;
 use meaning::Reading;

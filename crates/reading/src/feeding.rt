@@ -1,9 +1,9 @@
 // Feeding over the level store: one event, and all of them.
 use crate::Step;
 use crate::Turn;
-use crate::levels::put_level;
-use crate::levels::room;
-use crate::levels::top_level;
+use crate::flat_levels::put_level;
+use crate::flat_levels::room;
+use crate::flat_levels::top_level;
 use crate::passing::pass_settled;
 use crate::turns::skip_event;
 use meaning::Fed;

@@ -1,9 +1,10 @@
 // The reading of events: what one event leads to, by value, and the calls over the lent level store.
+mod advancing;
 mod checking;
 mod document;
 mod ending;
 mod feeding;
-mod levels;
+mod flat_levels;
 mod passing;
 mod settling;
 mod turns;
@@ -15,7 +16,7 @@ use document::fresh_reading;
 use document::read_events;
 use ending::end_of;
 use feeding::feed_events;
-use levels::top_level;
+use flat_levels::top_level;
 use meaning::End;
 use meaning::Fed;
 use meaning::Feeding;
@@ -50,6 +51,21 @@ enum Step {
 struct PassedOver {
     pub reading: Reading,
     pub next: usize,
+}
+
+// Where feeding stands: the reading there, the index of the next event, and whether one was refused, as then none is left.
+struct Going {
+    pub reading: Reading,
+    pub next: usize,
+    pub ended: Feeding,
+}
+
+// What one turn leads to: where feeding stands then, and the record to store with its place. Nothing is stored past the
+// level store's length.
+struct Advance {
+    pub going: Going,
+    pub place: usize,
+    pub level: Level,
 }
 
 // What a fresh reading answers: the reading, or the refusal of the rule.

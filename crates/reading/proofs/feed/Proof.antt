@@ -6,7 +6,7 @@ use native.Mathlib.Omega.{arith}
 use Rattle.meaning.specs.Calls.{feedingSays, refusalSays}
 use Rattle.meaning.proofs.ReadingCheck.{feed-checked, feed-unchecked}
 use Rattle.reading.proofs.Checks.{fine-feeds, fine-passes, refused-reads}
-use Rattle.reading.proofs.Going.{fed-is}
+use Rattle.reading.proofs.FlatGoing.{fed-is}
 use Rattle.reading.proofs.Store.{holds-same}
 use Rattle.reading.proofs.feed.Statement.{statement}
 use Rattle.reading.proofs.feed.Tie as tie

@@ -6,7 +6,7 @@ use denote.Ref.{now}
 use lib.ListN.{length}
 use borrow.Author.Needs.{needs}
 use native.Mathlib.Omega.{arith}
-use Rattle.reading.proofs.Going.{Going, going-start, going-length, going-ends, going-refused, going-on, going-passed}
+use Rattle.reading.proofs.FlatGoing.{Going, going-start, going-length, going-ends, going-refused, going-on, going-passed}
 use Rattle.reading.proofs.Steps.{reading-in, turn-ready}
 use Rattle.reading.proofs.Turned.{book-serves, few-letters}
 use Rattle.reading.proofs.feeding.feed_events.Statement.{statement}

@@ -1,11 +1,11 @@
--- `reading::levels::level_at` meets its contract: the record's two numbers are those of the two slices.
+-- `reading::flat_levels::level_at` meets its contract: the record's two numbers are those of the two slices.
 -- Assumes nothing.
 use native.Mathlib.Omega.{arith}
 use mathlib.Core.Path.{sym}
 use denote.Ref.{now}
 use Rattle.reading.proofs.Store.{store-at, store-below}
-use Rattle.reading.proofs.levels.level_at.Statement.{statement}
-use Rattle.reading.proofs.levels.level_at.Tie as tie
+use Rattle.reading.proofs.flat_levels.level_at.Statement.{statement}
+use Rattle.reading.proofs.flat_levels.level_at.Tie as tie
 
 shared-slice-read-above : tie.Need-shared-slice-read-above
 shared-slice-read-above c =

@@ -1,4 +1,4 @@
--- `reading::levels::top_level` meets its contract: an empty store has no record, and any other one at the depth less one.
+-- `reading::flat_levels::top_level` meets its contract: an empty store has no record, and any other one at the depth less one.
 -- Assumes nothing.
 use borrow.Author.Needs.{needs}
 use mathlib.Core.Path.{sym}
@@ -9,8 +9,8 @@ use lib.ListN.{List·getD-eq-default}
 use Rattle.meaning.specs.FullReading.{blank}
 use Rattle.meaning.specs.Calls.{topOf}
 use Rattle.reading.specs.Store.{storeOf}
-use Rattle.reading.proofs.levels.top_level.Statement.{statement}
-use Rattle.reading.proofs.levels.top_level.Tie as tie
+use Rattle.reading.proofs.flat_levels.top_level.Statement.{statement}
+use Rattle.reading.proofs.flat_levels.top_level.Tie as tie
 
 room-requires : tie.Need-room-requires
 room-requires c κs = search needs

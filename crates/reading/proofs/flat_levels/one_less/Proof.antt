@@ -1,9 +1,9 @@
--- `reading::levels::one_less` meets its contract: at zero there is nothing to take off. What the search finds by itself is
+-- `reading::flat_levels::one_less` meets its contract: at zero there is nothing to take off. What the search finds by itself is
 -- written out, so that a wrong index is refused here.
 -- Assumes nothing.
 use native.Mathlib.Omega.{arith}
-use Rattle.reading.proofs.levels.one_less.Statement.{statement}
-use Rattle.reading.proofs.levels.one_less.Tie as tie
+use Rattle.reading.proofs.flat_levels.one_less.Statement.{statement}
+use Rattle.reading.proofs.flat_levels.one_less.Tie as tie
 
 returns : tie.Need-returns
 returns c = omega arith

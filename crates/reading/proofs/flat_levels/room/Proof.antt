@@ -1,10 +1,10 @@
--- `reading::levels::room` meets its contract: the store is as long as the shorter slice.
+-- `reading::flat_levels::room` meets its contract: the store is as long as the shorter slice.
 -- Assumes nothing.
 use native.Mathlib.Omega.{arith}
 use denote.Ref.{now}
 use Rattle.reading.proofs.Store.{store-length}
-use Rattle.reading.proofs.levels.room.Statement.{statement}
-use Rattle.reading.proofs.levels.room.Tie as tie
+use Rattle.reading.proofs.flat_levels.room.Statement.{statement}
+use Rattle.reading.proofs.flat_levels.room.Tie as tie
 
 returns : tie.Need-returns
 returns c =

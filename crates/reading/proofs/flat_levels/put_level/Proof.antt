@@ -1,11 +1,11 @@
--- `reading::levels::put_level` meets its contract: laying both numbers lays the record, and touches nothing past the store.
+-- `reading::flat_levels::put_level` meets its contract: laying both numbers lays the record, and touches nothing past the store.
 -- Assumes nothing.
 use borrow.Author.Needs.{needs}
 use native.Mathlib.Omega.{arith}
 use denote.Ref.{now}
 use Rattle.reading.proofs.Store.{store-below, holds-set}
-use Rattle.reading.proofs.levels.put_level.Statement.{statement}
-use Rattle.reading.proofs.levels.put_level.Tie as tie
+use Rattle.reading.proofs.flat_levels.put_level.Statement.{statement}
+use Rattle.reading.proofs.flat_levels.put_level.Tie as tie
 
 slice-write-states : tie.Need-slice-write-states
 slice-write-states c = store-below (now (c .args .states)) (now (c .args .places)) (c .args .index) (c .pre) .0
