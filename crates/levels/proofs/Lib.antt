@@ -9,3 +9,4 @@ pub mod Loop
 pub mod ArrayLoans
 pub mod Lines
 pub mod Parameters
+pub mod Values

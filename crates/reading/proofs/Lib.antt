@@ -7,3 +7,4 @@ pub mod Checks
 pub mod PassesOn
 pub mod WholeRead
 pub mod OneOutcome
+pub mod Passed

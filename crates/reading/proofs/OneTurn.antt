@@ -1,18 +1,19 @@
 -- One turn of feeding keeps what is left to come: an event that is taken, one that is refused, and a run that is passed over.
 -- What was a reading still is one, and each event that is taken is one more.
 use mathlib.Core.Path.{_≡_, refl, sym, ap, _∙_}
-use mathlib.Core.List.{List, _∷_}
+use mathlib.Core.List.{List, [], _∷_}
 use Prim.Native.Nat.{ℕ, _+_, _-_, _≤_, _<_}
 use native.Mathlib.Numerals.{add-one}
 use native.Mathlib.Omega.{arith}
-use lib.ListN.{length, getD, drop, set, drop-of-length-le}
+use lib.ListN.{length, getD, drop, set, drop-of-length-le, length-set}
 use lib.Seq.{drop-cons}
 use Rattle.meaning.specs.Answers.{Answer, given}
 use Rattle.meaning.specs.RuleFile as format
 use Rattle.meaning.specs.RuleFile.{ruleOf}
 use Rattle.meaning.specs.FullReading.{Event, Turn, Went, looked, feedBy}
 use Rattle.meaning.specs.Skipping.{passed}
-use Rattle.meaning.specs.Calls.{Stored, topOf, storedAfter, storeStep, refusalSays}
+use Rattle.meaning.specs.Calls.{Stored, topOf, storedAfter, storeStep, refusalSays, feedingSays}
+use Rattle.meaning.specs.declared.Feeding.{Feeding}
 use Rattle.meaning.specs.declared.Feeding.the-variants as feeding
 use Rattle.meaning.specs.declared.Level.{Level}
 use Rattle.meaning.specs.declared.Reading.{Reading}
@@ -26,12 +27,13 @@ use Rattle.rule.specs.declared.Rule.{Rule}
 use Rattle.reading.specs.Turns.{Ready}
 use Rattle.reading.specs.Feeding.{Feeds, over}
 use Rattle.reading.specs.PassingOver.{passedOn, PassesOver}
-use Rattle.reading.specs.Advancing.{restOf, rest, Goes, Advances}
+use Rattle.reading.specs.Advancing.{restOf, rest, Goes, Advances, Gone}
 use Rattle.reading.specs.declared.Advance.{Advance}
+use Rattle.reading.specs.declared.Going.{Going}
 use Rattle.reading.specs.declared.PassedOver.{PassedOver}
 use Rattle.reading.proofs.PassesOn.{on-settled}
 use Rattle.reading.proofs.Turned.{letters-are}
-use Rattle.reading.proofs.Steps.{reading-in, feed-refused}
+use Rattle.reading.proofs.Steps.{reading-in, turn-ready, feed-refused, feed-none}
 
 -- ---- an event that is taken is one more
 
@@ -173,3 +175,53 @@ passes-on {file} {rule} {book} ceiling {r} {store} h events o a =
       goes = a .goes;
       comes = a .comes ∙ sym (o .feeds (ruleOf file) ceiling store (letters-are (h .ruled)) refl);
     }
+
+-- ---- turn by turn
+
+restOf-none : (x : Feeding) (step : Stored → ℕ → Answer Stored) (s : Stored) → restOf x s (feedBy step s []) ≡ record { last = s; ended = feedingSays x }
+unfolding restOf feedingSays
+restOf-none feeding.AllTaken step s = feed-none step s
+restOf-none (feeding.Refused f) step s = refl
+
+module _ (file : List ℕ) (rule : Rule) (book : List ℕ) (ceiling : ℕ) (events : List ℕ) (start : Going) (store₀ : List Level) where
+  abbrev all : Went Stored
+  all = rest (ruleOf file) book ceiling store₀ events start
+
+  -- what the loop keeps, where feeding stands at g over a store
+  pub record Underway (g : Going) (store : List Level) : Type 0 where
+    pub goes : Goes file rule book store events g
+    pub comes : rest (ruleOf file) book ceiling store events g ≡ all
+    pub more : start .reading .taken ≤ g .reading .taken
+    pub sameRoom : length store ≡ length store₀
+
+  pub underway-start : Goes file rule book store₀ events start → Underway start store₀
+  underway-start h = record { goes = h; comes = refl; more = omega arith; sameRoom = refl }
+
+  module _ {g : Going} {store : List Level} (u : Underway g store) where
+    -- an event is left: the turn may count on a reading
+    pub underway-ready : g .next < length events → Ready file rule book (g .reading) (topOf (g .reading) store)
+    underway-ready inside = turn-ready (u .goes .feeds inside)
+
+    -- and what it does is done
+    pub underway-next : g .next < length events → (a : Advance)
+        → ((other : List Level) → Feeds file rule book (g .reading) other → topOf (g .reading) other ≡ topOf (g .reading) store → length other ≡ length store₀
+        → Advances file rule book ceiling other (g .reading) events (g .next) a)
+        → Underway (a .going) (set store (a .place) (a .level))
+    unfolding rest restOf
+    underway-next inside a says =
+        let made = says store (u .goes .feeds inside) refl (u .sameRoom) in
+        record {
+          goes = made .goes;
+          comes = made .comes ∙ (sym (rw (u .goes .taken inside, restOf)) ∙ u .comes);
+          more = omega (arith, u .more, made .more);
+          sameRoom = length-set store (a .place) (a .level) ∙ u .sameRoom;
+        }
+
+    -- no event is left
+    pub underway-ends : length events ≤ g .next → Gone all (start .reading) g store
+    unfolding rest
+    underway-ends none =
+        record {
+          comes = sym (u .comes) ∙ rw (drop-of-length-le events none) (restOf-none (g .ended) _ _);
+          more = u .more;
+        }

@@ -1,20 +1,62 @@
 // Feeding over the level store: one event, and all of them.
+use crate::Going;
 use crate::Step;
 use crate::Turn;
+use crate::advancing::advance;
+use crate::advancing::top_place;
 use crate::flat_levels::put_level;
 use crate::flat_levels::room;
 use crate::flat_levels::top_level;
 use crate::passing::pass_settled;
 use crate::turns::skip_event;
+use levels::level_at;
 use meaning::Fed;
 use meaning::Feeding;
+use meaning::Level;
 use meaning::Reading;
 use rule::Rule;
 ghost use Rattle.meaning.specs.RuleFile.{ruleOf};
 ghost use Rattle.meaning.specs.FullReading.{feedBy};
 ghost use Rattle.meaning.specs.Calls.{storeStep};
 ghost use Rattle.reading.specs.Store.{storeOf};
+ghost use Rattle.reading.specs.Advancing.{rest, Goes, Gone};
 ghost use Rattle.reading.specs.Feeding.{Feeds, over, Stepped, FedIs};
+
+// All events, turn by turn, until none is left. What a turn stores is laid in the level store, and what the next one reads is
+// read from it.
+pub fn feed_loop(
+    file: &[u8],
+    rule: Rule,
+    book: &[u64],
+    ceiling: u32,
+    going: Going,
+    levels: &mut [Level],
+    events: &[u16],
+) -> Going
+    requires { ⌜ Goes (now file) rule (now book) (now levels) (now events) going ⌝ }
+    ensures { λ r. ⌜ Gone (rest (ruleOf (now (file .entry))) (now (book .entry)) ceiling (now (levels .entry)) (now (events .entry)) going) (going .reading) r (now (levels .exit)) ⌝ }
+{
+    let count = levels::room(&*levels);
+    let mut at = going;
+    while at.next < events.len() {
+        let place = top_place(at.reading);
+        let top = level_at(&*levels, place);
+        let turn = advance(
+            file,
+            rule,
+            book,
+            count,
+            ceiling,
+            at.reading,
+            top,
+            events,
+            at.next,
+        );
+        levels::put_level(&mut *levels, turn.place, turn.level);
+        at = turn.going;
+    }
+    at
+}
 
 // One event: what its turn says becomes of the reading, and of the store.
 fn take_event(
