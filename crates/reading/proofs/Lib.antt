@@ -1,8 +1,6 @@
 pub mod Turned
-pub mod Store
 pub mod Steps
 pub mod OneTurn
-pub mod FlatGoing
 pub mod Checks
 pub mod PassesOn
 pub mod WholeRead

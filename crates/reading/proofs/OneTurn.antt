@@ -19,7 +19,7 @@ use Rattle.meaning.specs.declared.Level.{Level}
 use Rattle.meaning.specs.declared.Reading.{Reading}
 use Rattle.meaning.specs.declared.Refusal.{Refusal}
 use Rattle.meaning.proofs.Accepted.{accepted-is-rule}
-use Rattle.meaning.proofs.FeedLaws.{feed-taken}
+use Rattle.meaning.proofs.FeedLaws.{feed-taken, feed-refused, feed-none}
 use Rattle.meaning.proofs.StillReading.{IsReading, reading-is, still-reading}
 use Rattle.meaning.proofs.StoreView.{step-turned}
 use Rattle.meaning.proofs.Turns.{Turned, passes, endsHeld, takesLetter, storesOpen, endsLooked}
@@ -33,7 +33,7 @@ use Rattle.reading.specs.declared.Going.{Going}
 use Rattle.reading.specs.declared.PassedOver.{PassedOver}
 use Rattle.reading.proofs.PassesOn.{on-settled}
 use Rattle.reading.proofs.Turned.{letters-are}
-use Rattle.reading.proofs.Steps.{reading-in, turn-ready, feed-refused, feed-none}
+use Rattle.reading.proofs.Steps.{reading-in, turn-ready}
 
 -- ---- an event that is taken is one more
 

@@ -23,10 +23,8 @@ use Rattle.meaning.proofs.StoreView.{store-is-levels}
 use Rattle.meaning.proofs.Whole.{fresh-reading, madeBook, made-says, made-length, whole-refused, whole-made, whole-feeds, whole-finishes}
 use Rattle.rule.specs.declared.Rule.{Rule}
 use Rattle.reading.specs.Turns.{RuleOf}
-use Rattle.reading.specs.Store.{storeOf, Holds}
-use Rattle.reading.specs.Feeding.{Feeds, over, FedIs}
-use Rattle.reading.specs.Whole.{endFed, ReadIs}
-use Rattle.reading.proofs.Store.{holds-same, holds-store}
+use Rattle.reading.specs.Feeding.{Feeds, over}
+use Rattle.reading.specs.Whole.{endFed}
 use Rattle.reading.proofs.Steps.{reading-in}
 use Rattle.reading.proofs.Turned.{states-are}
 
@@ -43,37 +41,6 @@ module _ {file : List ℕ} {rule : Rule} (h : RuleOf file rule) (book : List ℕ
         bookLong = long;
         isReading = reading-is (ruleOf file) book _ store (fresh-reading file book store (h .accepted));
       }
-
-  module _ (states places events : List ℕ) {fed : Fed} {states′ places′ : List ℕ}
-      (f : FedIs (readAll file book (storeOf states places) events) (freshReading (ruleOf file)) fed states places states′ places′) where
-    abbrev went : Went Stored
-    went = readAll file book (storeOf states places) events
-
-    read-store : storeOf states′ places′ ≡ went .last .store
-    read-store =
-        holds-store (f .holds)
-        (store-is-levels (ruleOf file) book largestCeiling _ (storeOf states places) events (reading-in (fresh-feeds (storeOf states places)) .within) .stored)
-
-    -- what was fed is still a reading
-    pub fed-feeds : Feeds file rule book (fed .reading) (storeOf states′ places′)
-    fed-feeds =
-        record {
-          ruled = h;
-          bookLong = long;
-          isReading = rw (f .readingIs, read-store)
-              (fed-reading (accepted-is-rule file (h .accepted)) book largestCeiling _ events (fresh-feeds (storeOf states places) .isReading));
-        }
-
-    -- an event was refused
-    pub end-refused : (r : Refusal) → fed .ended ≡ feeding.Refused r → endSays (end.Refused r) ≡ endFed (ruleOf file) went
-    unfolding endSays endFed feedingSays refusalSays
-    end-refused r e = sym (giving-stops _ (sym (f .endedIs) ∙ rw e))
-
-    -- all events were taken
-    pub end-taken : fed .ended ≡ feeding.AllTaken
-        → endOf (ruleOf file) (fed .reading) (topOf (fed .reading) (storeOf states′ places′)) ≡ endFed (ruleOf file) went
-    unfolding endFed feedingSays
-    end-taken e = rw (f .readingIs, read-store) (sym (giving-passes _ (sym (f .endedIs) ∙ rw e)))
 
 -- ---- after the maker
 
@@ -102,24 +69,3 @@ module _ (file book : List ℕ) where
   made-accepted made e =
       let accepted = made-says file book made .accepted in
       let z : _≡_ {A = ℕ} 0 1 = cc in absurd (omega arith)
-
--- ---- what the call answers and leaves
-
-module _ (file book states places events : List ℕ) where
-  -- the maker refused
-  pub read-refused : (r : Refusal) {book′ : List ℕ} → makeBook file book ≡ refusalSays r → book′ ≡ madeBook file book
-      → ReadIs (wholeDocument file book (storeOf states places) events) (end.Refused r) book′ states places states places
-  unfolding endSays refusalSays bookAfter
-  read-refused r e same =
-      let stays : madeBook file book ≡ book = rw (e, bookAfter) in
-      rw (whole-refused file book (storeOf states places) events e)
-      (record { answerIs = refl; bookIs = same ∙ stays; holds = holds-same states places })
-
-  -- the maker gave its count, and the events were read with its book
-  pub read-made : {count : ℕ} {r : End} {book′ states′ places′ : List ℕ} → makeBook file book ≡ given count → book′ ≡ madeBook file book
-      → endSays r ≡ endFed (ruleOf file) (readAll file book′ (storeOf states places) events)
-      → Holds (readAll file book′ (storeOf states places) events .last .store) states places states′ places′
-      → ReadIs (wholeDocument file book (storeOf states places) events) r book′ states places states′ places′
-  read-made made same ends holds =
-      rw (whole-read file book (storeOf states places) events made)
-      (record { answerIs = rw (← same) ends; bookIs = same; holds = rw (← same) holds })

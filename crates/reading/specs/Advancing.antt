@@ -13,6 +13,8 @@ use Rattle.meaning.specs.declared.Feeding.the-variants as feeding
 use Rattle.meaning.specs.declared.Level.{Level}
 use Rattle.meaning.specs.declared.Reading.{Reading}
 use Rattle.rule.specs.declared.Rule.{Rule}
+use Rattle.rule.specs.declared.Checked.{Checked}
+use Rattle.rule.specs.declared.Checked.the-variants as checked
 use Rattle.reading.specs.Feeding.{Feeds, over}
 use Rattle.reading.specs.declared.Going.{Going}
 use Rattle.reading.specs.declared.Advance.{Advance}
@@ -26,6 +28,11 @@ unfoldable pub rest : format.Rule → List ℕ → ℕ → List Level → List �
 rest R book ceiling store events g =
     restOf (g .ended) (over (g .reading) store)
     (feedBy (storeStep R book ceiling) (over (g .reading) store) (drop (g .next) events))
+
+-- where feeding begins after a check: before the first event, or at the check's refusal with none left
+unfoldable pub startOf : Checked → Reading → ℕ → Going
+startOf (checked.Fine rule) r count = record { reading = r; next = 0; ended = feeding.AllTaken }
+startOf (checked.Refused f) r count = record { reading = r; next = count; ended = feeding.Refused f }
 
 -- where an event is left, none was refused, and what stands there is a reading
 pub record Goes (file : List ℕ) (rule : Rule) (book : List ℕ) (store : List Level) (events : List ℕ) (g : Going) : Type 0 where

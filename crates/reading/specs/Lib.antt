@@ -1,5 +1,4 @@
 pub mod Turns
-pub mod Store
 pub mod Feeding
 pub mod Checks
 pub mod PassingOver
