@@ -2,7 +2,7 @@
 -- is read off the code: a `refl` says that the local holds what the context says of it.
 --     var, big, count, pointer, bundle     operands and right sides: a local; a large constant; a slice's count; where a slice begins; a slice of the two
 --     lets, lets-last      a local that holds nothing is assigned.        sets, sets-last      one that holds something is
---     lands-in, lands-in-last      a call's result goes to a local that holds nothing
+--     lands-in, lands-in-last      a call's result goes to a local that holds nothing.        lands-over      to one that holds something
 --     begins               a function is entered: each parameter's local holds what was passed
 use mathlib.Core.Path.{_≡_, refl, sym, subst}
 use Prim.Native.Nat.{ℕ, _+_, _<_, _^_}
@@ -48,6 +48,11 @@ module _ {M : Type 1} {𝓤 : URA M} {H : Heap 𝓤} {A : Atoms 𝓤} {K : Type 
     pub lands-in : K → {i : ℕ} {rest : Body} {v : Val} → nth 𝓤 H A i Γ ≡ ‵ (froom (spotOf 𝓤 H E i .0) (spotOf 𝓤 H E i .1) 0) → T (hasTy (spotOf 𝓤 H E i .0) v) × WT v
         → Step K W (put 𝓤 H A i (‵ (fat fullShare (spotOf 𝓤 H E i .0) (spotOf 𝓤 H E i .1) 0 v)) Γ) (runs C Λ E rest q) Γ (lands C Λ E (place i []) v rest q)
     lands-in t {i} e wt = land t (from t (stop t)) (init t i e wt)
+
+    -- over what it held
+    pub lands-over : K → {i : ℕ} {rest : Body} {v₀ v : Val} → nth 𝓤 H A i Γ ≡ ‵ (fat fullShare (spotOf 𝓤 H E i .0) (spotOf 𝓤 H E i .1) 0 v₀) → T (hasTy (spotOf 𝓤 H E i .0) v) × WT v
+        → Step K W (put 𝓤 H A i (‵ (fat fullShare (spotOf 𝓤 H E i .0) (spotOf 𝓤 H E i .1) 0 v)) Γ) (runs C Λ E rest q) Γ (lands C Λ E (place i []) v rest q)
+    lands-over t {i} e wt = land t (from t (stop t)) (store t i e wt)
 
   pub lands-in-last : K → {q : Post 𝓤 H} {i : ℕ} {v : Val} → nth 𝓤 H A i Γ ≡ ‵ (froom (spotOf 𝓤 H E i .0) (spotOf 𝓤 H E i .1) 0) → T (hasTy (spotOf 𝓤 H E i .0) v) × WT v
       → Step K W (put 𝓤 H A i (‵ (fat fullShare (spotOf 𝓤 H E i .0) (spotOf 𝓤 H E i .1) 0 v)) Γ) (prop (post 𝓤 H q next)) Γ (settles E (place i []) v q)

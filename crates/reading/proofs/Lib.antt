@@ -6,3 +6,4 @@ pub mod PassesOn
 pub mod WholeRead
 pub mod OneOutcome
 pub mod Passed
+pub mod Called

@@ -218,10 +218,11 @@ module _ (file : List ℕ) (rule : Rule) (book : List ℕ) (ceiling : ℕ) (even
         }
 
     -- no event is left
-    pub underway-ends : length events ≤ g .next → Gone all (start .reading) g store
+    pub underway-ends : length events ≤ g .next → Gone all (start .reading) (length store₀) g store
     unfolding rest
     underway-ends none =
         record {
           comes = sym (u .comes) ∙ rw (drop-of-length-le events none) (restOf-none (g .ended) _ _);
           more = u .more;
+          sameRoom = u .sameRoom;
         }

@@ -1,31 +1,39 @@
 -- The whole-document call: once the maker gave its count, a fresh reading with the made book passes every check of feed and
 -- finish, so feeding the events and taking the end of what was fed is what those calls answer in turn.
-use mathlib.Core.Path.{_≡_, refl, sym, _∙_}
+use mathlib.Core.Path.{_≡_, refl, sym, ap, _∙_}
 use mathlib.Core.List.{List}
 use Prim.Native.Nat.{ℕ, _<_}
 use native.Mathlib.Omega.{arith}
 use lib.ListN.{length}
-use Rattle.meaning.specs.Answers.{given, refused}
+use Rattle.meaning.specs.Answers.{given, refused, _giving_}
 use Rattle.meaning.specs.RuleFile.{checkRule, ruleOf}
 use Rattle.meaning.specs.FullReading.{Went, freshReading, feedBy}
 use Rattle.meaning.specs.SkipBook.{makeBook, bookAfter}
 use Rattle.meaning.specs.Calls.{Stored, refusalSays, feedingSays, endSays, storeStep, topOf, endOf, finishFed, largestCeiling, readWith, wholeDocument}
 use Rattle.meaning.specs.declared.End.{End}
-use Rattle.meaning.specs.declared.End.the-variants as end
-use Rattle.meaning.specs.declared.Fed.{Fed}
+use Rattle.meaning.specs.declared.Reading.{Reading}
 use Rattle.meaning.specs.declared.Feeding.the-variants as feeding
 use Rattle.meaning.specs.declared.Level.{Level}
 use Rattle.meaning.specs.declared.Refusal.{Refusal}
 use Rattle.meaning.proofs.Accepted.{accepted-is-rule}
-use Rattle.meaning.proofs.Answered.{giving-passes, giving-stops}
+use Rattle.meaning.proofs.Answered.{giving-stops}
 use Rattle.meaning.proofs.StillReading.{reading-is, fed-reading}
-use Rattle.meaning.proofs.StoreView.{store-is-levels}
 use Rattle.meaning.proofs.Whole.{fresh-reading, madeBook, made-says, made-length, whole-refused, whole-made, whole-feeds, whole-finishes}
 use Rattle.rule.specs.declared.Rule.{Rule}
+use Rattle.rule.specs.declared.Checked.{Checked}
+use Rattle.rule.specs.declared.Checked.the-variants as checked
+use Rattle.rule.proofs.Said.{refused-check}
+use Rattle.book.specs.Says.{madeSays}
+use Rattle.book.specs.declared.Made.{Made}
+use Rattle.book.specs.declared.Made.the-variants as maker
 use Rattle.reading.specs.Turns.{RuleOf}
 use Rattle.reading.specs.Feeding.{Feeds, over}
-use Rattle.reading.specs.Whole.{endFed}
-use Rattle.reading.proofs.Steps.{reading-in}
+use Rattle.reading.specs.Whole.{endFed, ReadIs, CheckedAfter}
+use Rattle.reading.specs.Checks.{ruleIn}
+use Rattle.reading.specs.Advancing.{rest, restOf, startOf, Goes, Gone}
+use Rattle.reading.specs.declared.Going.{Going}
+use Rattle.reading.proofs.Steps.{turn-ready}
+use Rattle.reading.proofs.Checks.{ruled-by}
 use Rattle.reading.proofs.Turned.{states-are}
 
 -- what feeding a fresh reading with the largest ceiling comes to
@@ -69,3 +77,71 @@ module _ (file book : List ℕ) where
   made-accepted made e =
       let accepted = made-says file book made .accepted in
       let z : _≡_ {A = ℕ} 0 1 = cc in absurd (omega arith)
+
+-- ---- how the call goes on after the maker: with its refusal, or with the rule of which it made the book
+
+module _ {file book : List ℕ} where
+  pub data Begins : Checked → Type 0 where
+    refuses : (f : Refusal) → makeBook file book ≡ refusalSays f → Begins (checked.Refused f)
+    begins : (count : ℕ) (rule : Rule) → makeBook file book ≡ given count → RuleOf file rule → Begins (checked.Fine rule)
+
+  pub begun-by : (m : Made) (x : Checked) → madeSays m ≡ makeBook file book → CheckedAfter file m x → Begins x
+  unfolding madeSays
+  begun-by (maker.Refused f) x made after = rw (after .whenRefused f refl) (refuses f (sym made))
+  begun-by (maker.Still count) (checked.Fine rule) made after = begins count rule (sym made) (ruled-by file rule (after .whenMade count refl))
+  begun-by (maker.Still count) (checked.Refused f) made after = made-accepted file book (sym made) (refused-check file f (after .whenMade count refl))
+
+  -- the book keeps its length
+  pub book-stays : {x : Checked} → Begins x → length (madeBook file book) ≡ length book
+  unfolding bookAfter refusalSays
+  book-stays (refuses f e) = rw (e, bookAfter)
+  book-stays (begins count rule e h) = made-length file book e
+
+  module _ {book′ : List ℕ} (same : book′ ≡ madeBook file book) {first : Reading} (store : List Level) (events : List ℕ) where
+    -- feeding may begin
+    pub document-goes : {x : Checked} → Begins x → ((file : List ℕ) → RuleOf file (ruleIn x) → first ≡ freshReading (ruleOf file))
+        → Goes file (ruleIn x) book′ store events (startOf x first (length events))
+    unfolding ruleIn startOf
+    document-goes (refuses f e) fresh =
+        record { within = omega arith; taken = λ less. absurd (omega arith); feeds = λ less. absurd (omega arith) }
+    document-goes (begins count rule e h) fresh =
+        record {
+          within = omega arith;
+          taken = λ _. refl;
+          feeds = λ _. rw (fresh file h) (fresh-feeds h book′ (made-rule file book e same h) store);
+        }
+
+    module _ {g : Going} {room : ℕ} {store′ : List Level} where
+      -- where it has come to its end, the reading may be ended
+      pub document-needs : {x : Checked} → Begins x → ((file : List ℕ) → RuleOf file (ruleIn x) → first ≡ freshReading (ruleOf file))
+          → Gone (rest (ruleOf file) book′ largestCeiling store events (startOf x first (length events))) (startOf x first (length events) .reading) room g store′
+          → g .ended ≡ feeding.AllTaken → RuleOf file (ruleIn x) × (g .reading .state < ruleIn x .states)
+      unfolding ruleIn startOf rest restOf feedingSays refusalSays
+      document-needs (refuses f e) fresh gone all =
+          let came : refusalSays f ≡ feedingSays (g .ended) = ap (λ (w : Went Stored). w .ended) (gone .comes) in
+          let z : _≡_ {A = ℕ} 0 1 = cc (rw (all, feedingSays) at came) in
+          absurd (omega arith)
+      document-needs (begins count rule e h) fresh gone all =
+          let long = made-rule file book e same h in
+          let came : readAll file book′ store events ≡ record { last = over (g .reading) store′; ended = feedingSays (g .ended) } = rw (fresh file h) at (gone .comes) in
+          let still = rw came at (fed-reading (accepted-is-rule file (h .accepted)) book′ largestCeiling (over (freshReading (ruleOf file)) store) events (fresh-feeds h book′ long store .isReading)) in
+          (h, turn-ready (record { ruled = h; bookLong = long; isReading = still }) .states .stateIn)
+
+      -- and the answer of its end is the call's
+      pub document-comes : {x : Checked} {r : End} → Begins x → ((file : List ℕ) → RuleOf file (ruleIn x) → first ≡ freshReading (ruleOf file))
+          → Gone (rest (ruleOf file) book′ largestCeiling store events (startOf x first (length events))) (startOf x first (length events) .reading) room g store′
+          → endSays r ≡ (feedingSays (g .ended) giving λ done. endOf (ruleOf file) (g .reading) (topOf (g .reading) store′))
+          → ReadIs (wholeDocument file book store events) r book′ store′
+      unfolding ruleIn startOf rest restOf refusalSays bookAfter endFed
+      document-comes (refuses f e) fresh gone ends =
+          let stays : madeBook file book ≡ book = rw (e, bookAfter) in
+          rw (whole-refused file book store events e)
+          (record {
+            answerIs = ends ∙ giving-stops _ (sym (ap (λ (w : Went Stored). w .ended) (gone .comes)));
+            bookIs = same ∙ stays;
+            storeIs = sym (ap (λ (w : Went Stored). w .last .store) (gone .comes));
+          })
+      document-comes (begins count rule e h) fresh gone ends =
+          let came : readAll file (madeBook file book) store events ≡ record { last = over (g .reading) store′; ended = feedingSays (g .ended) } = rw (fresh file h, same) at (gone .comes) in
+          rw (whole-read file book store events e)
+          (record { answerIs = rw came ends; bookIs = same; storeIs = rw came })

@@ -49,6 +49,7 @@ pub record Advances (file : List ℕ) (rule : Rule) (book : List ℕ) (ceiling :
       ≡ feedBy (storeStep (ruleOf file) book ceiling) (over r store) (drop next events)
 
 -- all turns: feeding has come to its end
-pub record Gone (w : Went Stored) (before : Reading) (g : Going) (store : List Level) : Type 0 where
+pub record Gone (w : Went Stored) (before : Reading) (room : ℕ) (g : Going) (store : List Level) : Type 0 where
   pub comes : w ≡ record { last = over (g .reading) store; ended = feedingSays (g .ended) }
   pub more : before .taken ≤ g .reading .taken
+  pub sameRoom : length store ≡ room

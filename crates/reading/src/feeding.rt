@@ -13,6 +13,7 @@ use rule::Checked;
 use rule::Rule;
 ghost use mathlib.Core.Path.{_≡_};
 ghost use Prim.Native.Nat.{_-_, _≤_};
+ghost use lib.ListN.{length};
 ghost use Rattle.meaning.specs.RuleFile.{ruleOf};
 ghost use Rattle.reading.specs.Advancing.{rest, startOf, Goes, Gone};
 ghost use Rattle.reading.specs.Feeding.{fedOf};
@@ -47,7 +48,7 @@ pub fn feed_loop(
     events: &[u16],
 ) -> Going
     requires { ⌜ Goes (now file) rule (now book) (now levels) (now events) going ⌝ }
-    ensures { λ r. ⌜ Gone (rest (ruleOf (now (file .entry))) (now (book .entry)) ceiling (now (levels .entry)) (now (events .entry)) going) (going .reading) r (now (levels .exit)) ⌝ }
+    ensures { λ r. ⌜ Gone (rest (ruleOf (now (file .entry))) (now (book .entry)) ceiling (now (levels .entry)) (now (events .entry)) going) (going .reading) (length (now (levels .entry))) r (now (levels .exit)) ⌝ }
 {
     let count = room(&*levels);
     let mut at = going;

@@ -1,29 +1,27 @@
+-- `reading::document::checked_after` meets its contract: what the maker refused, or the rule check again.
+-- Assumes nothing.
 use borrow.Author.Needs.{needs}
 use Rattle.reading.proofs.document.checked_after.Statement.{statement}
 use Rattle.reading.proofs.document.checked_after.Tie as tie
-use Rattle.reading.proofs.document.checked_after.Reads as reads
-use Rattle.reading.proofs.document.checked_after.Lts as lts
-use Rattle.rule.proofs.Rule.of_file.Reads as of-file-reads
 
--- src/document.rt:37:23
 enum-known-made : tie.Need-enum-known-made
 enum-known-made c = search needs
 
--- src/document.rt:38:27
 enum-told : tie.Need-enum-told
 enum-told c = search needs
 
--- src/document.rt:38:27
 of-file-requires : tie.Need-of-file-requires
 of-file-requires c κs = search needs
 
--- src/document.rt:33:1
 returns : tie.Need-returns
-returns c = ?
+returns c =
+    let said = c .before .made .given .1 in
+    record { whenRefused = λ f e. cc; whenMade = λ count e. cc }
 
--- src/document.rt:33:1
 returns-2 : tie.Need-returns-2
-returns-2 c = ?
+returns-2 c =
+    let told = c .before .enum-told .given .1 in
+    record { whenRefused = λ f e. cc; whenMade = λ count e. c .of-file .ensures }
 
 pub checked-after-spec : {M : Type 1} → statement M
 checked-after-spec =

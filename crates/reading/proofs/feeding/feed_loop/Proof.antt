@@ -157,10 +157,10 @@ module _ {M : Type 1} (𝓤 : URA M) (H : Heap 𝓤) (A : Atoms 𝓤) (W : Given
   abbrev Events : Item 𝓤
   Events = ‵ (Shown u16 (κs .1 .1 .1 .0) (qs .1 .1 .1 .0) (a .1 .1 .1 .1 .1 .1 .0 .name) (a .1 .1 .1 .1 .1 .1 .0 .ptr .0) (a .1 .1 .1 .1 .1 .1 .0 .ptr .1) (length es) es)
 
-  exits : (g : Going) (zs : List Level) → length zs ≡ length ls → Gone (rest (ruleOf file) book ceiling ls es start) (start .reading) g zs → FitsIn going-value g → ent 𝓤 (⋆ 𝓤 H A (File ∷ Book ∷ Levels zs ∷ Events ∷ [])) (Post (going-value .val g))
-  exits g zs same gone fits =
+  exits : (g : Going) (zs : List Level) → Gone (rest (ruleOf file) book ceiling ls es start) (start .reading) (length ls) g zs → FitsIn going-value g → ent 𝓤 (⋆ 𝓤 H A (File ∷ Book ∷ Levels zs ∷ Events ∷ [])) (Post (going-value .val g))
+  exits g zs gone fits =
       qed W (File ∷ Book ∷ Levels zs ∷ Events ∷ []) ∵
-      suffices ! _ (ends-at 𝓤 H A feed-loop.ended stayed (feed-loop.clauses 𝓤 H A at-mem run) W ((κs, qs, tt, a, at), tt) (going-value .val g) g (tt, (tt, (tt, (tt, (tt, (zs, (tt, tt))))))) (tt, (tt, (tt, (tt, (tt, (same, (tt, tt)))))))) $ says ! gone $
+      suffices ! _ (ends-at 𝓤 H A feed-loop.ended stayed (feed-loop.clauses 𝓤 H A at-mem run) W ((κs, qs, tt, a, at), tt) (going-value .val g) g (tt, (tt, (tt, (tt, (tt, (zs, (tt, tt))))))) (tt, (tt, (tt, (tt, (tt, (gone .sameRoom, (tt, tt)))))))) $ says ! gone $
       by ! (leaves 𝓤 H A W kinds taken 4 tt κs qs (a .0, (rule, (a .1 .1 .0, (ceiling, (start, (at-last (a .1 .1 .1 .1 .1 .0) zs, (a .1 .1 .1 .1 .1 .1 .0, tt))))))) at (going-value .row .own g (going-value .val g ∷ [])) (going-value .makes M 𝓤 H A g (going-value .val g ∷ []) fits))
 
   -- feeding stands at g over a store
@@ -242,7 +242,7 @@ module _ {M : Type 1} (𝓤 : URA M) (H : Heap 𝓤) (A : Atoms 𝓤) (W : Given
             (λ over. exec ! (𝓣 .C) (𝓣 .Λ) E body.t-6 (atRet E Post) $
             lets ! (of-opd ! (var ! refl)) refl (storable going-value W g (i .fits)) $
             returns ! (look ! 0 refl) $ freed W E (some _ ∷ some _ ∷ some _ ∷ some _ ∷ some _ ∷ some _ ∷ some _ ∷ some _ ∷ some _ ∷ some _ ∷ none ∷ none ∷ none ∷ none ∷ none ∷ some _ ∷ some _ ∷ []) $
-            by ! (exits g (i .store) (i .under .sameRoom) (underway-ends file rule book ceiling es start ls (i .under) (nltb→le (g .next) (length es) over)) (i .fits)))
+            by ! (exits g (i .store) (underway-ends file rule book ceiling es start ls (i .under) (nltb→le (g .next) (length es) over)) (i .fits)))
 
     walk : ent 𝓤 (onEntry 𝓤 H A feed-loop.signature κs qs a at) (WpFn 𝓤 H (𝓣 .C) (𝓣 .Λ) code.function (sliceVal (a .0 .ptr) (length file) ∷ rule-value .val rule ∷ sliceVal (a .1 .1 .0 .ptr) (length book) ∷ vint w32 ceiling ∷ going-value .val start ∷ sliceVal (a .1 .1 .1 .1 .1 .0 .ptr) (length ls) ∷ sliceVal (a .1 .1 .1 .1 .1 .1 .0 .ptr) (length es) ∷ []) Post)
     walk =
