@@ -21,7 +21,7 @@ use Rattle.meaning.specs.Answers.{_giving_}
 use Rattle.meaning.specs.RuleFile.{ruleOf}
 use Rattle.meaning.specs.FullReading.{Went, freshReading}
 use Rattle.meaning.specs.SkipBook.{makeBook, bookAfter}
-use Rattle.meaning.specs.Calls.{Stored, endSays, feedingSays, endOf}
+use Rattle.meaning.specs.Calls.{Stored, endSays, feedingSays, endOf, feedCall, finishCall}
 use Rattle.meaning.specs.declared.End.{End}
 use Rattle.meaning.specs.declared.Fed.{Fed}
 use Rattle.meaning.specs.declared.Feeding.the-variants as feeding
@@ -41,10 +41,12 @@ use Rattle.book.proofs.Made as Ma
 use Rattle.book.proofs.Made.Laws as Ma′
 use Rattle.reading.specs.Turns.{RuleOf}
 use Rattle.reading.specs.Checks.{readingAnswer}
-use Rattle.reading.specs.Feeding.{fedOf}
+use Rattle.reading.specs.Feeding.{FedIs, fedOf}
 use Rattle.reading.specs.Advancing.{rest, startOf, Goes, Gone}
 use Rattle.reading.specs.Whole.{CheckedAfter}
 use Rattle.reading.specs.declared.Going.{Going}
+use Rattle.reading.proofs.FedArray as Fa
+use Rattle.reading.proofs.FedArray.Laws as Fa′
 use Rattle.levels.proofs.Values.{Valued, FitsIn, passed, of-struct, of-enum}
 use Rattle.levels.proofs.Element.{record-type}
 use Rattle.levels.proofs.InPlace.{Gives}
@@ -69,6 +71,10 @@ use Rattle.reading.proofs.document.fresh_reading as fresh-reading
 use Rattle.reading.proofs.document.fresh_reading.Symbol.{name as #fresh-reading}
 use Rattle.reading.proofs.ending.end_fed as end-fed
 use Rattle.reading.proofs.ending.end_fed.Symbol.{name as #end-fed}
+use Rattle.reading.proofs.feed as feed
+use Rattle.reading.proofs.feed.Symbol.{name as #feed}
+use Rattle.reading.proofs.finish as finish
+use Rattle.reading.proofs.finish.Symbol.{name as #finish}
 
 abbrev pub made-value : Valued
 made-value = of-enum Ma.the-type Ma′.the-laws Ma′.the-plain tt
@@ -78,6 +84,9 @@ fed-value = of-struct Fe.the-type Fe′.the-laws Fe′.the-plain
 
 abbrev pub end-value : Valued
 end-value = of-enum En.the-type En′.the-laws En′.the-plain tt
+
+abbrev pub fed-array-value : Valued
+fed-array-value = of-struct Fa.the-type Fa′.the-laws Fa′.the-plain
 
 -- the store that the loop leaves is the one that feeding comes to
 gone-store : {w : Went Stored} {before : Reading} {room : ℕ} {g : Going} {store : List Level} → Gone w before room g store → store ≡ w .last .store
@@ -154,4 +163,20 @@ module _ {M : Type 1} {𝓤 : URA M} {H : Heap 𝓤} {A : Atoms 𝓤} (W : Given
   end-fed-by file rule going top known {b} {o} {n} l f1 f2 f3 need0 =
       replies-with W 𝓣 #end-fed (lent (as-shr 𝓤 H A u8 b o n file l) ∷ passed rule-value rule f1 ∷ passed going-value going f2 ∷ passed level-value top f3 ∷ []) (end-value .row) (end-value .val) (end-value .tells) (λ x ws. endSays x ≡ (feedingSays (going .ended) giving λ done. endOf (ruleOf file) (going .reading) top)) (fact 𝓤 (going .ended ≡ feeding.AllTaken → RuleOf file rule × (going .reading .state < rule .states))) (factI 𝓤 (going .ended ≡ feeding.AllTaken → RuleOf file rule × (going .reading .state < rule .states)) (emp 𝓤) need0) (λ x. endSays x ≡ (feedingSays (going .ended) giving λ done. endOf (ruleOf file) (going .reading) top)) (tt, (tt, (tt, (tt, tt))))
       (λ z. known (((l .lifetime (z .0), tt), (l .share (z .0), tt), tt, (at-list u8 (l .name (z .0)) b o file, (rule, (going, (top, tt)))), (sliceVal (b, o) n ∷ [], (rule-value .val rule ∷ [], (going-value .val going ∷ [], (level-value .val top ∷ [], tt))))), tt))
+      (λ x ws e. (e, refl))
+
+  pub feed-by : (file : List ℕ) (book : List ℕ) (ceiling : ℕ) (r : Reading) (levels : List Level) (events : List ℕ) → Meets 𝓤 H A feed.signature (𝓣 .C #feed) (feed.spec 𝓤 H A at-mem run) → {b₀ o₀ n₀ b₁ o₁ n₁ b₂ o₂ n₂ b₃ o₃ n₃ : ℕ} (l₀ : ShrLoan 𝓤 H A u8 b₀ o₀ n₀ file) (l₁ : ShrLoan 𝓤 H A u64 b₁ o₁ n₁ book) (l₂ : MutLoan 𝓤 H A record-type b₂ o₂ n₂ levels) (l₃ : ShrLoan 𝓤 H A u16 b₃ o₃ n₃ events) → ceiling < 2 ^ 32 → FitsIn reading-value r 
+      → Gives 𝓤 H A (𝓣 .C #feed) (l₀ .before ∷ l₁ .before ∷ l₂ .before ∷ l₃ .before ∷ []) (sliceVal (b₀, o₀) n₀ ∷ sliceVal (b₁, o₁) n₁ ∷ vint w32 ceiling ∷ reading-value .val r ∷ sliceVal (b₂, o₂) n₂ ∷ sliceVal (b₃, o₃) n₃ ∷ [])
+      (Said (fed-value .row) (fed-value .val) (λ x. FedIs (feedCall file book ceiling r levels events) r x (feedCall file book ceiling r levels events .last .store))) (λ x. fed-value .val (x .answer)) (λ _. l₀ .before ∷ l₁ .before ∷ l₂ .after (feedCall file book ceiling r levels events .last .store) ∷ l₃ .before ∷ [])
+  feed-by file book ceiling r levels events known {b₀} {o₀} {n₀} {b₁} {o₁} {n₁} {b₂} {o₂} {n₂} {b₃} {o₃} {n₃} l₀ l₁ l₂ l₃ f2 f3 =
+      replies-with W 𝓣 #feed (lent (as-shr 𝓤 H A u8 b₀ o₀ n₀ file l₀) ∷ lent (as-shr 𝓤 H A u64 b₁ o₁ n₁ book l₁) ∷ number 𝓤 H A W w32 ceiling f2 ∷ passed reading-value r f3 ∷ lent (as-mut 𝓤 H A record-type b₂ o₂ n₂ levels l₂) ∷ lent (as-shr 𝓤 H A u16 b₃ o₃ n₃ events l₃) ∷ []) (fed-value .row) (fed-value .val) (fed-value .tells) (λ x ws. FedIs (feedCall file book ceiling r levels events) r x (ws .1 .1 .1 .1 .0)) (emp 𝓤) (id⊢ 𝓤 (emp 𝓤)) (λ x. FedIs (feedCall file book ceiling r levels events) r x (feedCall file book ceiling r levels events .last .store)) (tt, (tt, (tt, (tt, (feedCall file book ceiling r levels events .last .store, (tt, tt))))))
+      (λ z. known (((l₀ .lifetime (z .0), (l₁ .lifetime (z .1 .0), (l₂ .lifetime (z .1 .1 .0), (l₃ .lifetime (z .1 .1 .1 .0), tt)))), (l₀ .share (z .0), (l₁ .share (z .1 .0), (l₂ .share (z .1 .1 .0), (l₃ .share (z .1 .1 .1 .0), tt)))), tt, (at-list u8 (l₀ .name (z .0)) b₀ o₀ file, (at-list u64 (l₁ .name (z .1 .0)) b₁ o₁ book, (ceiling, (r, (at-list record-type (l₂ .name (z .1 .1 .0)) b₂ o₂ levels, (at-list u16 (l₃ .name (z .1 .1 .1 .0)) b₃ o₃ events, tt)))))), (sliceVal (b₀, o₀) n₀ ∷ [], (sliceVal (b₁, o₁) n₁ ∷ [], (vint w32 ceiling ∷ [], (reading-value .val r ∷ [], (sliceVal (b₂, o₂) n₂ ∷ [], (sliceVal (b₃, o₃) n₃ ∷ [], tt))))))), tt))
+      (λ x ws e. (subst (FedIs (feedCall file book ceiling r levels events) r x) (e .storeIs) e, ap (λ (zs : List Level). (tt, (tt, (tt, (tt, (zs, (tt, tt))))))) (e .storeIs)))
+
+  pub finish-by : (file : List ℕ) (book : List ℕ) (r : Reading) (levels : List Level) → Meets 𝓤 H A finish.signature (𝓣 .C #finish) (finish.spec 𝓤 H A at-mem run) → {b₀ o₀ n₀ b₁ o₁ n₁ b₂ o₂ n₂ : ℕ} (l₀ : ShrLoan 𝓤 H A u8 b₀ o₀ n₀ file) (l₁ : ShrLoan 𝓤 H A u64 b₁ o₁ n₁ book) (l₂ : ShrLoan 𝓤 H A record-type b₂ o₂ n₂ levels) → FitsIn reading-value r 
+      → Gives 𝓤 H A (𝓣 .C #finish) (l₀ .before ∷ l₁ .before ∷ l₂ .before ∷ []) (sliceVal (b₀, o₀) n₀ ∷ sliceVal (b₁, o₁) n₁ ∷ reading-value .val r ∷ sliceVal (b₂, o₂) n₂ ∷ [])
+      (Said (end-value .row) (end-value .val) (λ x. endSays x ≡ finishCall file book r levels)) (λ x. end-value .val (x .answer)) (λ _. l₀ .before ∷ l₁ .before ∷ l₂ .before ∷ [])
+  finish-by file book r levels known {b₀} {o₀} {n₀} {b₁} {o₁} {n₁} {b₂} {o₂} {n₂} l₀ l₁ l₂ f2 =
+      replies-with W 𝓣 #finish (lent (as-shr 𝓤 H A u8 b₀ o₀ n₀ file l₀) ∷ lent (as-shr 𝓤 H A u64 b₁ o₁ n₁ book l₁) ∷ passed reading-value r f2 ∷ lent (as-shr 𝓤 H A record-type b₂ o₂ n₂ levels l₂) ∷ []) (end-value .row) (end-value .val) (end-value .tells) (λ x ws. endSays x ≡ finishCall file book r levels) (emp 𝓤) (id⊢ 𝓤 (emp 𝓤)) (λ x. endSays x ≡ finishCall file book r levels) (tt, (tt, (tt, (tt, tt))))
+      (λ z. known (((l₀ .lifetime (z .0), (l₁ .lifetime (z .1 .0), (l₂ .lifetime (z .1 .1 .0), tt))), (l₀ .share (z .0), (l₁ .share (z .1 .0), (l₂ .share (z .1 .1 .0), tt))), tt, (at-list u8 (l₀ .name (z .0)) b₀ o₀ file, (at-list u64 (l₁ .name (z .1 .0)) b₁ o₁ book, (r, (at-list record-type (l₂ .name (z .1 .1 .0)) b₂ o₂ levels, tt)))), (sliceVal (b₀, o₀) n₀ ∷ [], (sliceVal (b₁, o₁) n₁ ∷ [], (reading-value .val r ∷ [], (sliceVal (b₂, o₂) n₂ ∷ [], tt))))), tt))
       (λ x ws e. (e, refl))

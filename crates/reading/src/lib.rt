@@ -71,6 +71,12 @@ pub enum Begun {
     Refused(Refusal),
 }
 
+// What feeding answers over levels of one's own: the answer, and the levels after it.
+pub struct FedArray {
+    pub fed: Fed,
+    pub levels: [Level; 1024],
+}
+
 // A fresh reading of a rule, given as the bytes of its file.
 pub fn fresh(file: &[u8]) -> Begun
     ensures { λ r. ⌜ begunSays r ≡ freshCall (now (file .entry)) ⌝ }
@@ -107,6 +113,29 @@ pub fn finish(file: &[u8], book: &[u64], reading: Reading, levels: &[Level]) -> 
     let place = top_place(reading);
     let top = level_at(levels, place);
     end_checked(file, checked, reading, top)
+}
+
+// Feed over levels of one's own, for a caller that holds them by value.
+pub fn feed_array(
+    file: &[u8],
+    book: &[u64],
+    ceiling: u32,
+    reading: Reading,
+    levels: [Level; 1024],
+    events: &[u16],
+) -> FedArray
+    ensures { λ r. ⌜ FedIs (feedCall (now (file .entry)) (now (book .entry)) ceiling reading levels (now (events .entry))) reading (r .fed) (r .levels) ⌝ }
+{
+    let mut store = levels;
+    let fed = feed(file, book, ceiling, reading, &mut store, events);
+    FedArray { fed, levels: store }
+}
+
+// Finish over levels of one's own.
+pub fn finish_array(file: &[u8], book: &[u64], reading: Reading, levels: [Level; 1024]) -> End
+    ensures { λ r. ⌜ endSays r ≡ finishCall (now (file .entry)) (now (book .entry)) reading levels ⌝ }
+{
+    finish(file, book, reading, &levels)
 }
 
 // A whole document: the rule check, the maker, feed and finish in turn, with the largest ceiling.

@@ -37,7 +37,7 @@ use Rattle.levels.proofs.Locals.{placed, freed}
 use Rattle.levels.proofs.Lines.{var, count, pointer, bundle, lets, lands-in, begins}
 use Rattle.levels.proofs.Parameters.{Kind, by-value, shared, unique, holds, leaves}
 use Rattle.levels.proofs.Meets.{proved}
-use Rattle.levels.proofs.Element.{record-type}
+use Rattle.levels.proofs.Element.{record-type, tells, makes}
 use Rattle.levels.proofs.InPlace.{calls-by}
 use Rattle.levels.proofs.Loans.{Kept, Shown, relent, reshown, shown}
 use Rattle.meaning.specs.Calls.{feedCall}

@@ -41,7 +41,7 @@ use Rattle.levels.proofs.Locals.{placed, freed}
 use Rattle.levels.proofs.Lines.{var, big, count, pointer, bundle, lets, lands-in, begins}
 use Rattle.levels.proofs.Parameters.{Kind, shared, unique, holds, leaves}
 use Rattle.levels.proofs.Meets.{proved}
-use Rattle.levels.proofs.Element.{record-type}
+use Rattle.levels.proofs.Element.{record-type, makes}
 use Rattle.levels.proofs.InPlace.{calls-by}
 use Rattle.levels.proofs.Loans.{Kept, Shown, relent, reshown, shown}
 use Rattle.levels.proofs.Store.{looks}
@@ -158,20 +158,19 @@ module _ {M : Type 1} (𝓤 : URA M) (H : Heap 𝓤) (A : Atoms 𝓤) (W : Given
         lets ! (pointer ! refl refl refl) refl (tt, tt) $ lets ! (bundle ! (var ! refl) (count ! refl refl refl)) refl (tt, (tt, (record { fits = p1 .0 .1 .0 }, tt))) $
         calls-by ! 𝓣 (23 ∷ 24 ∷ []) refl (make-book-by W at-mem run 𝓣 file book make-book-known (shown W (κs .0) (qs .0) (a .0 .name)) (relent W (κs .1 .0) (qs .1 .0) (a .1 .0 .name))) (and-then ! (var ! refl) (and-then ! (var ! refl) (no-more !))) (λ made. lands-in ! refl (storable made-value W (made .answer) (made .fits)) $
         calls-by ! 𝓣 (23 ∷ []) refl (checked-after-by W at-mem run 𝓣 file (made .answer) checked-after-known (shown W (κs .0) (qs .0) (a .0 .name)) (made .fits)) (and-then ! (var ! refl) (and-then ! (var ! refl) (no-more !))) (λ checked. lands-in ! refl (storable checked-value W (checked .answer) (checked .fits)) $
-        let begins = begun-by {file} {book} (made .answer) (checked .answer) (made .says) (checked .says) in
         calls-by ! 𝓣 [] refl (rule-in-by W at-mem run 𝓣 rule-in-known (checked .answer) (checked .fits)) (and-then ! (var ! refl) (no-more !)) (λ rule. lands-in ! refl (storable rule-value W (ruleIn (checked .answer)) rule) $
         calls-by ! 𝓣 [] refl (fresh-reading-by W at-mem run 𝓣 (ruleIn (checked .answer)) fresh-reading-known rule) (and-then ! (var ! refl) (no-more !)) (λ first. lands-in ! refl (storable reading-value W (first .answer) (first .fits)) $
         lets ! (of-opd ! (count ! refl refl refl)) refl (tt, record { fits = p3 .0 .1 .0 }) $
         calls-by ! 𝓣 [] refl (started-by W at-mem run 𝓣 (checked .answer) (first .answer) (length events) started-known (checked .fits) (first .fits) (p3 .0 .1 .0)) (and-then ! (var ! refl) (and-then ! (var ! refl) (and-then ! (var ! refl) (no-more !)))) (λ going. lands-in ! refl (storable going-value W (begun (checked .answer) (first .answer)) going) $
         lets ! (pointer ! refl refl refl) refl (tt, tt) $ lets ! (bundle ! (var ! refl) (count ! refl refl refl)) refl (tt, (tt, (record { fits = p1 .0 .1 .0 }, tt))) $ lets ! (pointer ! refl refl refl) refl (tt, tt) $ lets ! (bundle ! (var ! refl) (count ! refl refl refl)) refl (tt, (tt, (record { fits = p2 .0 .1 .0 }, tt))) $
         calls-by ! 𝓣 (23 ∷ 24 ∷ 25 ∷ 26 ∷ []) refl (feed-loop-by W at-mem run 𝓣 file (ruleIn (checked .answer)) (madeBook file book) largestCeiling (begun (checked .answer) (first .answer)) levels events feed-loop-known (shown W (κs .0) (qs .0) (a .0 .name)) (reshown W (κs .1 .0) (qs .1 .0) (a .1 .0 .name)) (relent W (κs .1 .1 .0) (qs .1 .1 .0) (a .1 .1 .0 .name)) (shown W (κs .1 .1 .1 .0) (qs .1 .1 .1 .0) (a .1 .1 .1 .0 .name))
-        rule (lit< tt) going (document-goes refl levels events begins (first .says))) (and-then ! (var ! refl) (and-then ! (var ! refl) (and-then ! (var ! refl) (and-then ! (big ! (lit< tt)) (and-then ! (var ! refl) (and-then ! (var ! refl) (and-then ! (var ! refl) (no-more !)))))))) (λ last. lands-in ! refl (storable going-value W (last .answer) (last .fits)) $
+        rule (lit< tt) going (document-goes refl levels events (begun-by (made .answer) (checked .answer) (made .says) (checked .says)) (first .says))) (and-then ! (var ! refl) (and-then ! (var ! refl) (and-then ! (var ! refl) (and-then ! (big ! (lit< tt)) (and-then ! (var ! refl) (and-then ! (var ! refl) (and-then ! (var ! refl) (no-more !)))))))) (λ last. lands-in ! refl (storable going-value W (last .answer) (last .fits)) $
         calls-by ! 𝓣 [] refl (top-by W at-mem run 𝓣 top-place-known (last .answer .reading) (reading-fits (last .answer) (last .fits))) (and-then ! (load ! (from ! (fld ! refl (stop !))) (look-in ! 10 (sub ! 0 refl (whole !)))) (no-more !)) (λ place. lands-in ! refl (tt, record { fits = place .1 }) $
         lets ! (pointer ! refl refl refl) refl (tt, tt) $ lets ! (bundle ! (var ! refl) (count ! refl refl refl)) refl (tt, (tt, (record { fits = p2 .0 .1 .0 }, tt))) $
         calls-by ! 𝓣 (25 ∷ []) refl (looks W at-mem run 𝓣 (left (checked .answer) (first .answer)) (place .1) level-at-known (reshown W (κs .1 .1 .0) (qs .1 .1 .0) (a .1 .1 .0 .name))) (and-then ! (var ! refl) (and-then ! (var ! refl) (no-more !))) (λ fits. lands-in ! refl (storable level-value W (getD (left (checked .answer) (first .answer)) (last .answer .reading .depth - 1) blank) fits) $
-        calls-by ! 𝓣 (23 ∷ []) refl (end-fed-by W at-mem run 𝓣 file (ruleIn (checked .answer)) (last .answer) (getD (left (checked .answer) (first .answer)) (last .answer .reading .depth - 1) blank) end-fed-known (shown W (κs .0) (qs .0) (a .0 .name)) rule (last .fits) fits (document-needs refl levels events begins (first .says) (last .says)))
+        calls-by ! 𝓣 (23 ∷ []) refl (end-fed-by W at-mem run 𝓣 file (ruleIn (checked .answer)) (last .answer) (getD (left (checked .answer) (first .answer)) (last .answer .reading .depth - 1) blank) end-fed-known (shown W (κs .0) (qs .0) (a .0 .name)) rule (last .fits) fits (document-needs refl levels events (begun-by (made .answer) (checked .answer) (made .says) (checked .says)) (first .says) (last .says)))
         (and-then ! (var ! refl) (and-then ! (var ! refl) (and-then ! (var ! refl) (and-then ! (var ! refl) (no-more !))))) (λ x. lands-in ! refl (storable end-value W (x .answer) (x .fits)) $
-        returns ! (look ! 0 refl) $ freed W (placed 𝓤 H (code.function .locals) bs) (some _ ∷ some _ ∷ some _ ∷ some _ ∷ some _ ∷ some _ ∷ some _ ∷ some _ ∷ some _ ∷ some _ ∷ some _ ∷ some _ ∷ some _ ∷ some _ ∷ some _ ∷ some _ ∷ some _ ∷ some _ ∷ some _ ∷ some _ ∷ some _ ∷ some _ ∷ []) $ by ! (exits (x .answer) (left (checked .answer) (first .answer)) (last .says .sameRoom) (book-stays begins) (document-comes refl levels events begins (first .says) (last .says) (x .says)) (x .fits)))))))))))))
+        returns ! (look ! 0 refl) $ freed W (placed 𝓤 H (code.function .locals) bs) (some _ ∷ some _ ∷ some _ ∷ some _ ∷ some _ ∷ some _ ∷ some _ ∷ some _ ∷ some _ ∷ some _ ∷ some _ ∷ some _ ∷ some _ ∷ some _ ∷ some _ ∷ some _ ∷ some _ ∷ some _ ∷ some _ ∷ some _ ∷ some _ ∷ some _ ∷ []) $ by ! (exits (x .answer) (left (checked .answer) (first .answer)) (last .says .sameRoom) (book-stays (begun-by (made .answer) (checked .answer) (made .says) (checked .says))) (document-comes refl levels events (begun-by (made .answer) (checked .answer) (made .says) (checked .says)) (first .says) (last .says) (x .says)) (x .fits)))))))))))))
 
 pub read-document-spec : {M : Type 1} → stated.statement M
 unfolding code.routine tablesOf
