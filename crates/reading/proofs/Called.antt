@@ -35,15 +35,11 @@ use Rattle.rule.specs.Says.{checkedSays}
 use Rattle.rule.specs.declared.Rule.{Rule}
 use Rattle.rule.specs.declared.Checked.{Checked}
 use Rattle.rule.specs.declared.Checked.the-variants as answered
-use Rattle.book.specs.Says.{madeSays}
-use Rattle.book.specs.declared.Made.{Made}
-use Rattle.book.proofs.Made as Ma
-use Rattle.book.proofs.Made.Laws as Ma′
 use Rattle.reading.specs.Turns.{RuleOf}
 use Rattle.reading.specs.Checks.{readingAnswer}
 use Rattle.reading.specs.Feeding.{FedIs, fedOf}
 use Rattle.reading.specs.Advancing.{rest, startOf, Goes, Gone}
-use Rattle.reading.specs.Whole.{CheckedAfter}
+use Rattle.reading.specs.Whole.{MadeRule}
 use Rattle.reading.specs.declared.Going.{Going}
 use Rattle.reading.proofs.FedArray as Fa
 use Rattle.reading.proofs.FedArray.Laws as Fa′
@@ -63,10 +59,8 @@ use Rattle.reading.proofs.feeding.fed_of as fed-of
 use Rattle.reading.proofs.feeding.fed_of.Symbol.{name as #fed-of}
 use Rattle.reading.proofs.ending.end_checked as end-checked
 use Rattle.reading.proofs.ending.end_checked.Symbol.{name as #end-checked}
-use Rattle.book.proofs.make_book as make-book
-use Rattle.book.proofs.make_book.Symbol.{name as #make-book}
-use Rattle.reading.proofs.document.checked_after as checked-after
-use Rattle.reading.proofs.document.checked_after.Symbol.{name as #checked-after}
+use Rattle.reading.proofs.document.make_rule as make-rule
+use Rattle.reading.proofs.document.make_rule.Symbol.{name as #make-rule}
 use Rattle.reading.proofs.document.fresh_reading as fresh-reading
 use Rattle.reading.proofs.document.fresh_reading.Symbol.{name as #fresh-reading}
 use Rattle.reading.proofs.ending.end_fed as end-fed
@@ -75,9 +69,6 @@ use Rattle.reading.proofs.feed as feed
 use Rattle.reading.proofs.feed.Symbol.{name as #feed}
 use Rattle.reading.proofs.finish as finish
 use Rattle.reading.proofs.finish.Symbol.{name as #finish}
-
-abbrev pub made-value : Valued
-made-value = of-enum Ma.the-type Ma′.the-laws Ma′.the-plain tt
 
 abbrev pub fed-value : Valued
 fed-value = of-struct Fe.the-type Fe′.the-laws Fe′.the-plain
@@ -133,21 +124,13 @@ module _ {M : Type 1} {𝓤 : URA M} {H : Heap 𝓤} {A : Atoms 𝓤} (W : Given
       (λ z. known (((l .lifetime (z .0), tt), (l .share (z .0), tt), tt, (at-list u8 (l .name (z .0)) b o file, (checked, (r, (top, tt)))), (sliceVal (b, o) n ∷ [], (checked-value .val checked ∷ [], (reading-value .val r ∷ [], (level-value .val top ∷ [], tt))))), tt))
       (λ x ws e. (e, refl))
 
-  pub make-book-by : (file : List ℕ) (book : List ℕ) → Meets 𝓤 H A make-book.signature (𝓣 .C #make-book) (make-book.spec 𝓤 H A at-mem run) → {b₀ o₀ n₀ b₁ o₁ n₁ : ℕ} (l₀ : ShrLoan 𝓤 H A u8 b₀ o₀ n₀ file) (l₁ : MutLoan 𝓤 H A u64 b₁ o₁ n₁ book) 
-      → Gives 𝓤 H A (𝓣 .C #make-book) (l₀ .before ∷ l₁ .before ∷ []) (sliceVal (b₀, o₀) n₀ ∷ sliceVal (b₁, o₁) n₁ ∷ [])
-      (Said (made-value .row) (made-value .val) (λ x. madeSays x ≡ makeBook file book)) (λ x. made-value .val (x .answer)) (λ _. l₀ .before ∷ l₁ .after (bookAfter (makeBook file book) (ruleOf file) book) ∷ [])
-  make-book-by file book known {b₀} {o₀} {n₀} {b₁} {o₁} {n₁} l₀ l₁ =
-      replies-with W 𝓣 #make-book (lent (as-shr 𝓤 H A u8 b₀ o₀ n₀ file l₀) ∷ lent (as-mut 𝓤 H A u64 b₁ o₁ n₁ book l₁) ∷ []) (made-value .row) (made-value .val) (made-value .tells) (λ x ws. (madeSays x ≡ makeBook file book) × (ws .1 .0 ≡ bookAfter (makeBook file book) (ruleOf file) book)) (emp 𝓤) (id⊢ 𝓤 (emp 𝓤)) (λ x. madeSays x ≡ makeBook file book) (tt, (bookAfter (makeBook file book) (ruleOf file) book, tt))
+  pub make-rule-by : (file : List ℕ) (book : List ℕ) → Meets 𝓤 H A make-rule.signature (𝓣 .C #make-rule) (make-rule.spec 𝓤 H A at-mem run) → {b₀ o₀ n₀ b₁ o₁ n₁ : ℕ} (l₀ : ShrLoan 𝓤 H A u8 b₀ o₀ n₀ file) (l₁ : MutLoan 𝓤 H A u64 b₁ o₁ n₁ book) 
+      → Gives 𝓤 H A (𝓣 .C #make-rule) (l₀ .before ∷ l₁ .before ∷ []) (sliceVal (b₀, o₀) n₀ ∷ sliceVal (b₁, o₁) n₁ ∷ [])
+      (Said (checked-value .row) (checked-value .val) (λ x. MadeRule file book x (bookAfter (makeBook file book) (ruleOf file) book))) (λ x. checked-value .val (x .answer)) (λ _. l₀ .before ∷ l₁ .after (bookAfter (makeBook file book) (ruleOf file) book) ∷ [])
+  make-rule-by file book known {b₀} {o₀} {n₀} {b₁} {o₁} {n₁} l₀ l₁ =
+      replies-with W 𝓣 #make-rule (lent (as-shr 𝓤 H A u8 b₀ o₀ n₀ file l₀) ∷ lent (as-mut 𝓤 H A u64 b₁ o₁ n₁ book l₁) ∷ []) (checked-value .row) (checked-value .val) (checked-value .tells) (λ x ws. MadeRule file book x (ws .1 .0)) (emp 𝓤) (id⊢ 𝓤 (emp 𝓤)) (λ x. MadeRule file book x (bookAfter (makeBook file book) (ruleOf file) book)) (tt, (bookAfter (makeBook file book) (ruleOf file) book, tt))
       (λ z. known (((l₀ .lifetime (z .0), (l₁ .lifetime (z .1 .0), tt)), (l₀ .share (z .0), (l₁ .share (z .1 .0), tt)), tt, (at-list u8 (l₀ .name (z .0)) b₀ o₀ file, (at-list u64 (l₁ .name (z .1 .0)) b₁ o₁ book, tt)), (sliceVal (b₀, o₀) n₀ ∷ [], (sliceVal (b₁, o₁) n₁ ∷ [], tt))), tt))
-      (λ x ws e. (e .0, ap (λ (zs : List ℕ). (tt, (zs, tt))) (e .1)))
-
-  pub checked-after-by : (file : List ℕ) (made : Made) → Meets 𝓤 H A checked-after.signature (𝓣 .C #checked-after) (checked-after.spec 𝓤 H A at-mem run) → {b o n : ℕ} (l : ShrLoan 𝓤 H A u8 b o n file) → FitsIn made-value made 
-      → Gives 𝓤 H A (𝓣 .C #checked-after) (l .before ∷ []) (sliceVal (b, o) n ∷ made-value .val made ∷ [])
-      (Said (checked-value .row) (checked-value .val) (λ x. CheckedAfter file made x)) (λ x. checked-value .val (x .answer)) (λ _. l .before ∷ [])
-  checked-after-by file made known {b} {o} {n} l f1 =
-      replies-with W 𝓣 #checked-after (lent (as-shr 𝓤 H A u8 b o n file l) ∷ passed made-value made f1 ∷ []) (checked-value .row) (checked-value .val) (checked-value .tells) (λ x ws. CheckedAfter file made x) (emp 𝓤) (id⊢ 𝓤 (emp 𝓤)) (λ x. CheckedAfter file made x) (tt, (tt, tt))
-      (λ z. known (((l .lifetime (z .0), tt), (l .share (z .0), tt), tt, (at-list u8 (l .name (z .0)) b o file, (made, tt)), (sliceVal (b, o) n ∷ [], (made-value .val made ∷ [], tt))), tt))
-      (λ x ws e. (e, refl))
+      (λ x ws e. (subst (MadeRule file book x) (e .bookIs) e, ap (λ (zs : List ℕ). (tt, (zs, tt))) (e .bookIs)))
 
   pub fresh-reading-by : (rule : Rule) → Meets 𝓤 H A fresh-reading.signature (𝓣 .C #fresh-reading) (fresh-reading.spec 𝓤 H A at-mem run) → FitsIn rule-value rule 
       → Gives 𝓤 H A (𝓣 .C #fresh-reading) ([]) (rule-value .val rule ∷ [])

@@ -107,7 +107,7 @@ unfolding startOf
 start-reading (checked.Fine rule) r count = refl
 start-reading (checked.Refused f) r count = refl
 
-module _ {file book : List ℕ} {r : Reading} {store : List Level} where
+module _ (file book : List ℕ) (r : Reading) (store : List Level) where
   -- feeding may begin
   pub start-goes : (x : Checked) (events : List ℕ) → checkedSays x ≡ readingAnswer file book r store
       → Goes file (ruleIn x) book store events (startOf x r (length events))

@@ -5,7 +5,7 @@ use mathlib.Core.List.{List}
 use Prim.Native.Nat.{ℕ, _<_}
 use native.Mathlib.Omega.{arith}
 use lib.ListN.{length}
-use Rattle.meaning.specs.Answers.{given, refused, _giving_}
+use Rattle.meaning.specs.Answers.{Answer, given, refused, _giving_}
 use Rattle.meaning.specs.RuleFile.{checkRule, ruleOf}
 use Rattle.meaning.specs.FullReading.{Went, freshReading, feedBy}
 use Rattle.meaning.specs.SkipBook.{makeBook, bookAfter}
@@ -22,13 +22,11 @@ use Rattle.meaning.proofs.Whole.{fresh-reading, madeBook, made-says, made-lengt
 use Rattle.rule.specs.declared.Rule.{Rule}
 use Rattle.rule.specs.declared.Checked.{Checked}
 use Rattle.rule.specs.declared.Checked.the-variants as checked
+use Rattle.rule.specs.Says.{checkedSays, checkAnswer}
 use Rattle.rule.proofs.Said.{refused-check}
-use Rattle.book.specs.Says.{madeSays}
-use Rattle.book.specs.declared.Made.{Made}
-use Rattle.book.specs.declared.Made.the-variants as maker
 use Rattle.reading.specs.Turns.{RuleOf}
 use Rattle.reading.specs.Feeding.{Feeds, over}
-use Rattle.reading.specs.Whole.{endFed, ReadIs, CheckedAfter}
+use Rattle.reading.specs.Whole.{endFed, ReadIs, MadeRule}
 use Rattle.reading.specs.Checks.{ruleIn}
 use Rattle.reading.specs.Advancing.{rest, restOf, startOf, Goes, Gone}
 use Rattle.reading.specs.declared.Going.{Going}
@@ -80,16 +78,22 @@ module _ (file book : List ℕ) where
 
 -- ---- how the call goes on after the maker: with its refusal, or with the rule of which it made the book
 
-module _ {file book : List ℕ} where
+module _ (file book : List ℕ) where
   pub data Begins : Checked → Type 0 where
     refuses : (f : Refusal) → makeBook file book ≡ refusalSays f → Begins (checked.Refused f)
     begins : (count : ℕ) (rule : Rule) → makeBook file book ≡ given count → RuleOf file rule → Begins (checked.Fine rule)
 
-  pub begun-by : (m : Made) (x : Checked) → madeSays m ≡ makeBook file book → CheckedAfter file m x → Begins x
-  unfolding madeSays
-  begun-by (maker.Refused f) x made after = rw (after .whenRefused f refl) (refuses f (sym made))
-  begun-by (maker.Still count) (checked.Fine rule) made after = begins count rule (sym made) (ruled-by file rule (after .whenMade count refl))
-  begun-by (maker.Still count) (checked.Refused f) made after = made-accepted file book (sym made) (refused-check file f (after .whenMade count refl))
+  pub begun-by : (x : Checked) {book′ : List ℕ} → MadeRule file book x book′ → Begins x
+  unfolding refusalSays
+  begun-by x h = go (makeBook file book) refl x (h .whenRefused) (h .whenMade)
+    where
+      go : (y : Answer ℕ) → makeBook file book ≡ y → (x : Checked) → ((f : Refusal) → makeBook file book ≡ refusalSays f → x ≡ checked.Refused f)
+          → ((count : ℕ) → makeBook file book ≡ given count → checkedSays x ≡ checkAnswer file) → Begins x
+      go (refused number place) e x whenRefused whenMade =
+          let f : Refusal = record { number = number; place = place } in
+          rw (whenRefused f e) (refuses f e)
+      go (given count) e (checked.Fine rule) whenRefused whenMade = begins count rule e (ruled-by file rule (whenMade count e))
+      go (given count) e (checked.Refused f) whenRefused whenMade = made-accepted file book e (refused-check file f (whenMade count e))
 
   -- the book keeps its length
   pub book-stays : {x : Checked} → Begins x → length (madeBook file book) ≡ length book
@@ -97,7 +101,7 @@ module _ {file book : List ℕ} where
   book-stays (refuses f e) = rw (e, bookAfter)
   book-stays (begins count rule e h) = made-length file book e
 
-  module _ {book′ : List ℕ} (same : book′ ≡ madeBook file book) {first : Reading} (store : List Level) (events : List ℕ) where
+  module _ {book′ : List ℕ} (same : book′ ≡ madeBook file book) (first : Reading) (store : List Level) (events : List ℕ) where
     -- feeding may begin
     pub document-goes : {x : Checked} → Begins x → ((file : List ℕ) → RuleOf file (ruleIn x) → first ≡ freshReading (ruleOf file))
         → Goes file (ruleIn x) book′ store events (startOf x first (length events))
@@ -111,7 +115,7 @@ module _ {file book : List ℕ} where
           feeds = λ _. rw (fresh file h) (fresh-feeds h book′ (made-rule file book e same h) store);
         }
 
-    module _ {g : Going} {room : ℕ} {store′ : List Level} where
+    module _ (g : Going) {room : ℕ} {store′ : List Level} where
       -- where it has come to its end, the reading may be ended
       pub document-needs : {x : Checked} → Begins x → ((file : List ℕ) → RuleOf file (ruleIn x) → first ≡ freshReading (ruleOf file))
           → Gone (rest (ruleOf file) book′ largestCeiling store events (startOf x first (length events))) (startOf x first (length events) .reading) room g store′

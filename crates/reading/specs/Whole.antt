@@ -2,17 +2,16 @@
 use Prim.Native.Nat.{ℕ}
 use mathlib.Core.Path.{_≡_}
 use mathlib.Core.List.{List}
-use Rattle.meaning.specs.Answers.{Answer, _giving_}
-use Rattle.meaning.specs.RuleFile.{Rule}
+use Rattle.meaning.specs.Answers.{Answer, given, _giving_}
+use Rattle.meaning.specs.RuleFile.{Rule, ruleOf}
+use Rattle.meaning.specs.SkipBook.{makeBook, bookAfter}
 use Rattle.meaning.specs.FullReading.{Went}
 use Rattle.meaning.specs.Calls as calls
-use Rattle.meaning.specs.Calls.{Stored, Judged, endSays, topOf, endOf}
+use Rattle.meaning.specs.Calls.{Stored, Judged, refusalSays, endSays, topOf, endOf}
 use Rattle.meaning.specs.declared.Refusal.{Refusal}
 use Rattle.rule.specs.Says.{checkedSays, checkAnswer}
 use Rattle.rule.specs.declared.Checked.{Checked}
 use Rattle.rule.specs.declared.Checked.the-variants as checked
-use Rattle.book.specs.declared.Made.{Made}
-use Rattle.book.specs.declared.Made.the-variants as maker
 use Rattle.meaning.specs.declared.End.{End}
 use Rattle.meaning.specs.declared.Level.{Level}
 
@@ -25,7 +24,8 @@ pub record ReadIs (w : calls.Whole) (r : End) (book : List ℕ) (store : List Le
   pub bookIs : book ≡ w .book
   pub storeIs : store ≡ w .store
 
--- the rule check after the maker: its refusal, or the rule
-pub record CheckedAfter (file : List ℕ) (made : Made) (r : Checked) : Type 0 where
-  pub whenRefused : (f : Refusal) → made ≡ maker.Refused f → r ≡ checked.Refused f
-  pub whenMade : (count : ℕ) → made ≡ maker.Still count → checkedSays r ≡ checkAnswer file
+-- the maker, and the rule check after it: the maker's refusal, or the rule
+pub record MadeRule (file book : List ℕ) (r : Checked) (book′ : List ℕ) : Type 0 where
+  pub bookIs : book′ ≡ bookAfter (makeBook file book) (ruleOf file) book
+  pub whenRefused : (f : Refusal) → makeBook file book ≡ refusalSays f → r ≡ checked.Refused f
+  pub whenMade : (count : ℕ) → makeBook file book ≡ given count → checkedSays r ≡ checkAnswer file

@@ -39,7 +39,7 @@ pub fn rule_in(checked: Checked) -> Rule
 }
 
 // Whether a stored state is below n, and those before it are.
-fn still_in(inside: bool, level: Level, states: u8) -> bool
+pub fn still_in(inside: bool, level: Level, states: u8) -> bool
     ensures { λ r. ⌜ r ≡ (inside && isState states (level .above)) ⌝ }
 {
     if inside {
@@ -49,7 +49,7 @@ fn still_in(inside: bool, level: Level, states: u8) -> bool
 }
 
 // Whether the stored states below the depth are all below n.
-fn stored_in(levels: &[Level], depth: usize, states: u8) -> bool
+pub fn stored_in(levels: &[Level], depth: usize, states: u8) -> bool
     ensures { λ r. ⌜ r ≡ abovesIn states depth (now (levels .entry)) ⌝ }
 {
     let mut inside = true;
@@ -63,7 +63,7 @@ fn stored_in(levels: &[Level], depth: usize, states: u8) -> bool
 }
 
 // The stored depth, if the level store is that long.
-fn depth_within(reading: Reading, room: usize) -> usize
+pub fn depth_within(reading: Reading, room: usize) -> usize
     ensures { λ r. ⌜ (reading .depth ≤ room → r ≡ reading .depth) ⌝ }
 {
     let depth = reading.depth as usize;
@@ -117,7 +117,7 @@ fn not_reading(
 }
 
 // The rule, 6, 13.
-fn reading_answer(
+pub fn reading_answer(
     checked: Checked,
     book: &[u64],
     reading: Reading,

@@ -1,5 +1,6 @@
 // Reading a whole document: what the rule check and the maker lead to.
 use book::Made;
+use book::make_book;
 use meaning::Reading;
 use rule::Checked;
 use rule::Rule;
@@ -8,9 +9,8 @@ ghost use mathlib.Core.List.{List};
 ghost use Prim.Native.Nat.{ℕ};
 ghost use Rattle.meaning.specs.RuleFile.{ruleOf};
 ghost use Rattle.meaning.specs.FullReading.{freshReading};
-ghost use Rattle.book.specs.Says.{madeSays};
 ghost use Rattle.reading.specs.Turns.{RuleOf};
-ghost use Rattle.reading.specs.Whole.{CheckedAfter};
+ghost use Rattle.reading.specs.Whole.{MadeRule};
 
 // The largest ceiling.
 pub const LARGEST_CEILING: u32 = 4294967295;
@@ -28,12 +28,12 @@ pub fn fresh_reading(rule: Rule) -> Reading
     }
 }
 
-// What the maker refused, or the rule of which it made the book. A fresh reading and that book pass every check of feed and
-// finish, so no other is made.
-pub fn checked_after(file: &[u8], made: Made) -> Checked
-    ensures { λ r. ⌜ CheckedAfter (now (file .entry)) made r ⌝ }
+// The maker, and then the rule of which it made the book, or what it refused. A fresh reading and that book pass every check
+// of feed and finish, so no other is made.
+pub fn make_rule(file: &[u8], book: &mut [u64]) -> Checked
+    ensures { λ r. ⌜ MadeRule (now (file .entry)) (now (book .entry)) r (now (book .exit)) ⌝ }
 {
-    match made {
+    match make_book(file, book) {
         Made::Refused(refusal) => Checked::Refused(refusal),
         Made::Still(_) => Rule::of_file(file),
     }

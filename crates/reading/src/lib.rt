@@ -9,12 +9,11 @@ mod settling;
 mod turns;
 
 use advancing::top_place;
-use book::make_book;
 use checking::admit;
 use checking::rule_in;
 use document::LARGEST_CEILING;
-use document::checked_after;
 use document::fresh_reading;
+use document::make_rule;
 use ending::end_checked;
 use ending::end_fed;
 use feeding::fed_of;
@@ -147,8 +146,7 @@ pub fn read_document(
 ) -> End
     ensures { λ r. ⌜ ReadIs (wholeDocument (now (file .entry)) (now (book .entry)) (now (levels .entry)) (now (events .entry))) r (now (book .exit)) (now (levels .exit)) ⌝ }
 {
-    let made = make_book(file, &mut *book);
-    let checked = checked_after(file, made);
+    let checked = make_rule(file, &mut *book);
     let rule = rule_in(checked);
     let first = fresh_reading(rule);
     let going = started(checked, first, events.len());

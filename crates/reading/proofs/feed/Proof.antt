@@ -1,7 +1,7 @@
 -- `reading::feed` meets its contract. The code is walked by hand: the check, the loop from where it lets feeding begin, the answer.
 -- Assumes nothing.
 use mathlib.Core.Path.{_≡_, refl}
-use Prim.Native.Nat.{ℕ, _<_, _^_}
+use Prim.Native.Nat.{ℕ, _-_, _<_, _^_}
 use mathlib.Core.List.{List, [], _∷_}
 use mathlib.Core.Option.{some}
 use lib.ListN.{length}
@@ -53,19 +53,25 @@ use Rattle.reading.proofs.Passed.{reading-value, rule-value, checked-va
 use Rattle.reading.proofs.Called.{fed-value, admit-by, started-by, feed-loop-by, fed-of-by}
 use Rattle.reading.proofs.checking.admit as admit
 use Rattle.reading.proofs.checking.admit.Symbol as admit-def
+use Rattle.reading.proofs.checking.admit.Symbol.{name as #admit}
 use Rattle.reading.proofs.checking.admit.Met as admit-thm
 use Rattle.reading.proofs.checking.rule_in as rule-in
 use Rattle.reading.proofs.checking.rule_in.Symbol as rule-in-def
+use Rattle.reading.proofs.checking.rule_in.Symbol.{name as #rule-in}
 use Rattle.reading.proofs.checking.rule_in.Met as rule-in-thm
 use Rattle.reading.proofs.feeding.started as started
 use Rattle.reading.proofs.feeding.started.Symbol as started-def
+use Rattle.reading.proofs.feeding.started.Symbol.{name as #started}
 use Rattle.reading.proofs.feeding.started.Met as started-thm
 use Rattle.reading.proofs.feeding.feed_loop as feed-loop
 use Rattle.reading.proofs.feeding.feed_loop.Symbol as feed-loop-def
+use Rattle.reading.proofs.feeding.feed_loop.Symbol.{name as #feed-loop}
 use Rattle.reading.proofs.feeding.feed_loop.Met as feed-loop-thm
 use Rattle.reading.proofs.feeding.fed_of as fed-of
 use Rattle.reading.proofs.feeding.fed_of.Symbol as fed-of-def
+use Rattle.reading.proofs.feeding.fed_of.Symbol.{name as #fed-of}
 use Rattle.reading.proofs.feeding.fed_of.Met as fed-of-thm
+use Rattle.reading.proofs.feed.Key.{name as #feed}
 use Rattle.reading.proofs.feed as feed
 use Rattle.reading.proofs.feed.Statement as stated
 use Rattle.reading.proofs.feed.Code as code
@@ -140,9 +146,9 @@ module _ {M : Type 1} (𝓤 : URA M) (H : Heap 𝓤) (A : Atoms 𝓤) (W : Given
         calls-by ! 𝓣 [] refl (started-by W at-mem run 𝓣 (checked .answer) r (length events) started-known (checked .fits) p3 (p5 .0 .1 .0)) (and-then ! (var ! refl) (and-then ! (var ! refl) (and-then ! (var ! refl) (no-more !)))) (λ going. lands-in ! refl (storable going-value W (begun (checked .answer)) going) $
         lets ! (pointer ! refl refl refl) refl (tt, tt) $ lets ! (bundle ! (var ! refl) (count ! refl refl refl)) refl (tt, (tt, (record { fits = p4 .0 .1 .0 }, tt))) $
         calls-by ! 𝓣 (17 ∷ 18 ∷ 19 ∷ 20 ∷ []) refl (feed-loop-by W at-mem run 𝓣 file (ruleIn (checked .answer)) book ceiling (begun (checked .answer)) levels events feed-loop-known (shown W (κs .0) (qs .0) (a .0 .name)) (shown W (κs .1 .0) (qs .1 .0) (a .1 .0 .name)) (relent W (κs .1 .1 .0) (qs .1 .1 .0) (a .1 .1 .1 .1 .0 .name)) (shown W (κs .1 .1 .1 .0) (qs .1 .1 .1 .0) (a .1 .1 .1 .1 .1 .0 .name))
-        rule p2 going (start-goes (checked .answer) events (checked .says))) (and-then ! (var ! refl) (and-then ! (var ! refl) (and-then ! (var ! refl) (and-then ! (var ! refl) (and-then ! (var ! refl) (and-then ! (var ! refl) (and-then ! (var ! refl) (no-more !)))))))) (λ last. lands-in ! refl (storable going-value W (last .answer) (last .fits)) $
-        calls-by ! 𝓣 [] refl (fed-of-by W at-mem run 𝓣 r (last .answer) fed-of-known p3 (last .fits) (start-gone (checked .answer) ceiling events (checked .says) (last .says) .more)) (and-then ! (var ! refl) (and-then ! (var ! refl) (no-more !))) (λ fits. lands-in ! refl (storable fed-value W (fedOf r (last .answer)) fits) $
-        returns ! (look ! 0 refl) $ freed W (placed 𝓤 H (code.function .locals) bs) (some _ ∷ some _ ∷ some _ ∷ some _ ∷ some _ ∷ some _ ∷ some _ ∷ some _ ∷ some _ ∷ some _ ∷ some _ ∷ some _ ∷ some _ ∷ some _ ∷ some _ ∷ some _ ∷ []) $ by ! (exits (fedOf r (last .answer)) (rest (ruleOf file) book ceiling levels events (begun (checked .answer)) .last .store) (last .says .sameRoom) (fed-answer (start-gone (checked .answer) ceiling events (checked .says) (last .says))) fits))))))))
+        rule p2 going (start-goes file book r levels (checked .answer) events (checked .says))) (and-then ! (var ! refl) (and-then ! (var ! refl) (and-then ! (var ! refl) (and-then ! (var ! refl) (and-then ! (var ! refl) (and-then ! (var ! refl) (and-then ! (var ! refl) (no-more !)))))))) (λ last. lands-in ! refl (storable going-value W (last .answer) (last .fits)) $
+        calls-by ! 𝓣 [] refl (fed-of-by W at-mem run 𝓣 r (last .answer) fed-of-known p3 (last .fits) (start-gone file book r levels (checked .answer) ceiling events (checked .says) (last .says) .more)) (and-then ! (var ! refl) (and-then ! (var ! refl) (no-more !))) (λ fits. lands-in ! refl (storable fed-value W (fedOf r (last .answer)) fits) $
+        returns ! (look ! 0 refl) $ freed W (placed 𝓤 H (code.function .locals) bs) (some _ ∷ some _ ∷ some _ ∷ some _ ∷ some _ ∷ some _ ∷ some _ ∷ some _ ∷ some _ ∷ some _ ∷ some _ ∷ some _ ∷ some _ ∷ some _ ∷ some _ ∷ some _ ∷ []) $ by ! (exits (fedOf r (last .answer)) (rest (ruleOf file) book ceiling levels events (begun (checked .answer)) .last .store) (last .says .sameRoom) (fed-answer (start-gone file book r levels (checked .answer) ceiling events (checked .says) (last .says))) fits))))))))
 
 pub feed-spec : {M : Type 1} → stated.statement M
 unfolding code.routine tablesOf

@@ -55,7 +55,9 @@ use Rattle.reading.proofs.FedArray as Fa
 use Rattle.reading.proofs.FedArray.Laws as Fa′
 use Rattle.reading.proofs.feed as feed
 use Rattle.reading.proofs.feed.Symbol as feed-def
+use Rattle.reading.proofs.feed.Symbol.{name as #feed}
 use Rattle.reading.proofs.feed.Met as feed-thm
+use Rattle.reading.proofs.feed_array.Key.{name as #feed-array}
 use Rattle.reading.proofs.feed_array as feed-array
 use Rattle.reading.proofs.feed_array.Statement as stated
 use Rattle.reading.proofs.feed_array.Code as code
@@ -133,7 +135,7 @@ module _ {M : Type 1} (𝓤 : URA M) (H : Heap 𝓤) (A : Atoms 𝓤) (W : Given
         lets ! (addr ! (from ! (stop !))) refl (tt, tt) $ lets ! (bundle ! (var ! refl) (big ! (lit< tt))) refl (tt, (tt, (record { fits = lit< tt }, tt))) $
         calls-by ! 𝓣 (12 ∷ 13 ∷ 7 ∷ 14 ∷ []) refl (feed-by W at-mem run 𝓣 file book ceiling r levels events feed-known (shown W (κs .0) (qs .0) (a .0 .name)) (shown W (κs .1 .0) (qs .1 .0) (a .1 .0 .name)) (lent-array record-type machine tells tt W (makes 𝓤 H A) (lit< tt, lit< tt) p4) (shown W (κs .1 .1 .0) (qs .1 .1 .0) (a .1 .1 .1 .1 .1 .0 .name)) p2 p3) (and-then ! (var ! refl) (and-then ! (var ! refl) (and-then ! (var ! refl) (and-then ! (var ! refl) (and-then ! (var ! refl) (and-then ! (var ! refl) (no-more !))))))) (λ fed. lands-in ! refl (storable fed-value W (fed .answer) (fed .fits)) $ learns ! 7 refl (λ fine.
         lets ! (agg ! (and-then ! (var ! refl) (and-then ! (var ! refl) (no-more !)))) refl (storable fed-array-value W (answer (fed .answer)) (answer-fits (fed .answer) (fed .fits) fine)) $
-        returns ! (look ! 0 refl) $ freed W (placed 𝓤 H (code.function .locals) bs) (some _ ∷ some _ ∷ some _ ∷ some _ ∷ some _ ∷ some _ ∷ some _ ∷ some _ ∷ some _ ∷ some _ ∷ some _ ∷ []) $ by ! (exits (answer (fed .answer)) (fed .says) (answer-fits (fed .answer) (fed .fits) fine)))))
+        returns ! (look ! 0 refl) $ freed W (placed 𝓤 H (code.function .locals) bs) (some _ ∷ some _ ∷ some _ ∷ some _ ∷ some _ ∷ some _ ∷ some _ ∷ some _ ∷ some _ ∷ some _ ∷ some _ ∷ []) $ by ! (exits (answer (fed .answer)) (fed .says) (answer-fits (fed .answer) (fed .fits) fine))))))
 
 pub feed-array-spec : {M : Type 1} → stated.statement M
 unfolding code.routine tablesOf

@@ -1,7 +1,7 @@
 -- `reading::finish` meets its contract. The code is walked by hand: the check, the innermost record, the answer.
 -- Assumes nothing.
 use mathlib.Core.Path.{_≡_, refl, _∙_}
-use Prim.Native.Nat.{ℕ}
+use Prim.Native.Nat.{ℕ, _-_}
 use mathlib.Core.List.{List, [], _∷_}
 use mathlib.Core.Option.{some}
 use lib.ListN.{length, getD}
@@ -40,28 +40,33 @@ use Rattle.levels.proofs.Element.{record-type, tells, makes}
 use Rattle.levels.proofs.InPlace.{calls-by}
 use Rattle.levels.proofs.Loans.{Shown, shown}
 use Rattle.levels.proofs.Store.{looks}
-use Rattle.rule.specs.Says.{checkedSays}
+use Rattle.meaning.specs.Calls.{topOf, endSays, endOf, finishCall}
 use Rattle.meaning.specs.Answers.{_giving_}
 use Rattle.meaning.specs.RuleFile.{ruleOf}
-use Rattle.meaning.specs.Calls.{topOf, endSays, endOf, finishCall}
+use Rattle.rule.specs.Says.{checkedSays}
+use Rattle.meaning.specs.declared.End.{End}
 use Rattle.rule.specs.declared.Checked.{Checked}
 use Rattle.reading.specs.Checks.{readingAnswer}
-use Rattle.meaning.specs.declared.End.{End}
-use Rattle.reading.proofs.Checks.{finish-needs}
+use Rattle.reading.proofs.Checks.{finish-needs, finish-comes}
 use Rattle.reading.proofs.Passed.{level-value, reading-value, checked-value, top-by}
 use Rattle.reading.proofs.Called.{end-value, admit-by, end-checked-by}
 use Rattle.reading.proofs.checking.admit as admit
 use Rattle.reading.proofs.checking.admit.Symbol as admit-def
+use Rattle.reading.proofs.checking.admit.Symbol.{name as #admit}
 use Rattle.reading.proofs.checking.admit.Met as admit-thm
 use Rattle.reading.proofs.advancing.top_place as top-place
 use Rattle.reading.proofs.advancing.top_place.Symbol as top-place-def
+use Rattle.reading.proofs.advancing.top_place.Symbol.{name as #top-place}
 use Rattle.reading.proofs.advancing.top_place.Met as top-place-thm
 use Rattle.levels.proofs.level_at as level-at
 use Rattle.levels.proofs.level_at.Symbol as level-at-def
+use Rattle.levels.proofs.level_at.Symbol.{name as #level-at}
 use Rattle.levels.proofs.level_at.Met as level-at-thm
 use Rattle.reading.proofs.ending.end_checked as end-checked
 use Rattle.reading.proofs.ending.end_checked.Symbol as end-checked-def
+use Rattle.reading.proofs.ending.end_checked.Symbol.{name as #end-checked}
 use Rattle.reading.proofs.ending.end_checked.Met as end-checked-thm
+use Rattle.reading.proofs.finish.Key.{name as #finish}
 use Rattle.reading.proofs.finish as finish
 use Rattle.reading.proofs.finish.Statement as stated
 use Rattle.reading.proofs.finish.Code as code
@@ -116,7 +121,7 @@ module _ {M : Type 1} (𝓤 : URA M) (H : Heap 𝓤) (A : Atoms 𝓤) (W : Given
 
     ended : (x : Checked) → checkedSays x ≡ readingAnswer file book r levels → (checkedSays x giving λ rule. endOf (ruleOf file) r top) ≡ finishCall file book r levels
     unfolding topOf
-    ended x e = finish-comes x e
+    ended x e = finish-comes file book r levels x e
 
     walk : ent 𝓤 (onEntry 𝓤 H A finish.signature κs qs a at) (WpFn 𝓤 H (𝓣 .C) (𝓣 .Λ) code.function (sliceVal (a .0 .ptr) (length file) ∷ sliceVal (a .1 .0 .ptr) (length book) ∷ reading-value .val r ∷ sliceVal (a .1 .1 .1 .0 .ptr) (length levels) ∷ []) Post)
     walk =
@@ -127,8 +132,8 @@ module _ {M : Type 1} (𝓤 : URA M) (H : Heap 𝓤) (A : Atoms 𝓤) (W : Given
         calls-by ! 𝓣 (9 ∷ 10 ∷ 11 ∷ []) refl (admit-by W at-mem run 𝓣 file book r levels admit-known (shown W (κs .0) (qs .0) (a .0 .name)) (shown W (κs .1 .0) (qs .1 .0) (a .1 .0 .name)) (shown W (κs .1 .1 .0) (qs .1 .1 .0) (a .1 .1 .1 .0 .name)) p2) (and-then ! (var ! refl) (and-then ! (var ! refl) (and-then ! (var ! refl) (and-then ! (var ! refl) (no-more !))))) (λ checked. lands-in ! refl (storable checked-value W (checked .answer) (checked .fits)) $
         calls-by ! 𝓣 [] refl (top-by W at-mem run 𝓣 top-place-known r p2) (and-then ! (var ! refl) (no-more !)) (λ place. lands-in ! refl (tt, record { fits = place .1 }) $
         calls-by ! 𝓣 (11 ∷ []) refl (looks W at-mem run 𝓣 levels (place .1) level-at-known (shown W (κs .1 .1 .0) (qs .1 .1 .0) (a .1 .1 .1 .0 .name))) (and-then ! (var ! refl) (and-then ! (var ! refl) (no-more !))) (λ fits. lands-in ! refl (storable level-value W top fits) $
-        calls-by ! 𝓣 (9 ∷ []) refl (end-checked-by W at-mem run 𝓣 file (checked .answer) r top end-checked-known (shown W (κs .0) (qs .0) (a .0 .name)) (checked .fits) p2 fits (finish-needs (checked .answer) (checked .says))) (and-then ! (var ! refl) (and-then ! (var ! refl) (and-then ! (var ! refl) (and-then ! (var ! refl) (no-more !))))) (λ x. lands-in ! refl (storable end-value W (x .answer) (x .fits)) $
-        returns ! (look ! 0 refl) $ freed W (placed 𝓤 H (code.function .locals) bs) (some _ ∷ some _ ∷ some _ ∷ some _ ∷ some _ ∷ some _ ∷ some _ ∷ some _ ∷ []) $ by ! (exits (x .answer) (x .says ∙ ended (checked .answer) (checked .says)) (x .fits)))))))
+        calls-by ! 𝓣 (9 ∷ []) refl (end-checked-by W at-mem run 𝓣 file (checked .answer) r top end-checked-known (shown W (κs .0) (qs .0) (a .0 .name)) (checked .fits) p2 fits (finish-needs file book r levels (checked .answer) (checked .says))) (and-then ! (var ! refl) (and-then ! (var ! refl) (and-then ! (var ! refl) (and-then ! (var ! refl) (no-more !))))) (λ x. lands-in ! refl (storable end-value W (x .answer) (x .fits)) $
+        returns ! (look ! 0 refl) $ freed W (placed 𝓤 H (code.function .locals) bs) (some _ ∷ some _ ∷ some _ ∷ some _ ∷ some _ ∷ some _ ∷ some _ ∷ some _ ∷ []) $ by ! (exits (x .answer) (x .says ∙ ended (checked .answer) (checked .says)) (x .fits))))))))
 
 pub finish-spec : {M : Type 1} → stated.statement M
 unfolding code.routine tablesOf

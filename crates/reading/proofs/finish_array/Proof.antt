@@ -47,7 +47,9 @@ use Rattle.reading.proofs.Passed.{level-value, reading-value}
 use Rattle.reading.proofs.Called.{end-value, finish-by}
 use Rattle.reading.proofs.finish as finish
 use Rattle.reading.proofs.finish.Symbol as finish-def
+use Rattle.reading.proofs.finish.Symbol.{name as #finish}
 use Rattle.reading.proofs.finish.Met as finish-thm
+use Rattle.reading.proofs.finish_array.Key.{name as #finish-array}
 use Rattle.reading.proofs.finish_array as finish-array
 use Rattle.reading.proofs.finish_array.Statement as stated
 use Rattle.reading.proofs.finish_array.Code as code
@@ -103,7 +105,7 @@ module _ {M : Type 1} (𝓤 : URA M) (H : Heap 𝓤) (A : Atoms 𝓤) (W : Given
         -- file and book stand at 8 and 9, and the array at its own place, 4
         lets ! (addr ! (from ! (stop !))) refl (tt, tt) $ lets ! (bundle ! (var ! refl) (big ! (lit< tt))) refl (tt, (tt, (record { fits = lit< tt }, tt))) $
         calls-by ! 𝓣 (8 ∷ 9 ∷ 4 ∷ []) refl (finish-by W at-mem run 𝓣 file book r levels finish-known (shown W (κs .0) (qs .0) (a .0 .name)) (shown W (κs .1 .0) (qs .1 .0) (a .1 .0 .name)) (shown-array record-type machine tells tt W (makes 𝓤 H A) (lit< tt, lit< tt) p3) p2) (and-then ! (var ! refl) (and-then ! (var ! refl) (and-then ! (var ! refl) (and-then ! (var ! refl) (no-more !))))) (λ x. lands-in ! refl (storable end-value W (x .answer) (x .fits)) $
-        returns ! (look ! 0 refl) $ freed W (placed 𝓤 H (code.function .locals) bs) (some _ ∷ some _ ∷ some _ ∷ some _ ∷ some _ ∷ some _ ∷ some _ ∷ []) $ by ! (exits (x .answer) (x .says) (x .fits))))
+        returns ! (look ! 0 refl) $ freed W (placed 𝓤 H (code.function .locals) bs) (some _ ∷ some _ ∷ some _ ∷ some _ ∷ some _ ∷ some _ ∷ some _ ∷ []) $ by ! (exits (x .answer) (x .says) (x .fits)))))
 
 pub finish-array-spec : {M : Type 1} → stated.statement M
 unfolding code.routine tablesOf

@@ -1,8 +1,8 @@
--- `reading::read_document` meets its contract. The code is walked by hand: the maker, the rule check after it, the loop from a fresh
+-- `reading::read_document` meets its contract. The code is walked by hand: the maker and the rule check after it, the loop from a fresh
 -- reading, and the end of what was fed.
 -- Assumes nothing.
 use mathlib.Core.Path.{_≡_, refl}
-use Prim.Native.Nat.{ℕ, _<_}
+use Prim.Native.Nat.{ℕ, _-_, _<_}
 use mathlib.Core.List.{List, [], _∷_}
 use mathlib.Core.Option.{some}
 use lib.Dec.{lit<}
@@ -45,7 +45,7 @@ use Rattle.levels.proofs.Element.{record-type, makes}
 use Rattle.levels.proofs.InPlace.{calls-by}
 use Rattle.levels.proofs.Loans.{Kept, Shown, relent, reshown, shown}
 use Rattle.levels.proofs.Store.{looks}
-use Rattle.meaning.specs.Calls.{wholeDocument, largestCeiling}
+use Rattle.meaning.specs.Calls.{topOf, wholeDocument, largestCeiling}
 use Rattle.meaning.specs.RuleFile.{ruleOf}
 use Rattle.meaning.specs.declared.End.{End}
 use Rattle.meaning.proofs.Whole.{madeBook}
@@ -58,34 +58,40 @@ use Rattle.reading.proofs.Going as Go
 use Rattle.reading.proofs.Going.Laws as Go′
 use Rattle.reading.proofs.WholeRead.{begun-by, book-stays, document-goes, document-needs, document-comes}
 use Rattle.reading.proofs.Passed.{level-value, reading-value, rule-value, checked-value, going-value, rule-in-by, top-by}
-use Rattle.reading.proofs.Called.{made-value, end-value, started-by, feed-loop-by, make-book-by, checked-after-by, fresh-reading-by, end-fed-by}
-use Rattle.book.proofs.make_book as make-book
-use Rattle.book.proofs.make_book.Symbol as make-book-def
-use Rattle.book.proofs.make_book.Met as make-book-thm
-use Rattle.reading.proofs.document.checked_after as checked-after
-use Rattle.reading.proofs.document.checked_after.Symbol as checked-after-def
-use Rattle.reading.proofs.document.checked_after.Met as checked-after-thm
+use Rattle.reading.proofs.Called.{end-value, started-by, feed-loop-by, make-rule-by, fresh-reading-by, end-fed-by}
+use Rattle.reading.proofs.document.make_rule as make-rule
+use Rattle.reading.proofs.document.make_rule.Symbol as make-rule-def
+use Rattle.reading.proofs.document.make_rule.Symbol.{name as #make-rule}
+use Rattle.reading.proofs.document.make_rule.Met as make-rule-thm
 use Rattle.reading.proofs.checking.rule_in as rule-in
 use Rattle.reading.proofs.checking.rule_in.Symbol as rule-in-def
+use Rattle.reading.proofs.checking.rule_in.Symbol.{name as #rule-in}
 use Rattle.reading.proofs.checking.rule_in.Met as rule-in-thm
 use Rattle.reading.proofs.document.fresh_reading as fresh-reading
 use Rattle.reading.proofs.document.fresh_reading.Symbol as fresh-reading-def
+use Rattle.reading.proofs.document.fresh_reading.Symbol.{name as #fresh-reading}
 use Rattle.reading.proofs.document.fresh_reading.Met as fresh-reading-thm
 use Rattle.reading.proofs.feeding.started as started
 use Rattle.reading.proofs.feeding.started.Symbol as started-def
+use Rattle.reading.proofs.feeding.started.Symbol.{name as #started}
 use Rattle.reading.proofs.feeding.started.Met as started-thm
 use Rattle.reading.proofs.feeding.feed_loop as feed-loop
 use Rattle.reading.proofs.feeding.feed_loop.Symbol as feed-loop-def
+use Rattle.reading.proofs.feeding.feed_loop.Symbol.{name as #feed-loop}
 use Rattle.reading.proofs.feeding.feed_loop.Met as feed-loop-thm
 use Rattle.reading.proofs.advancing.top_place as top-place
 use Rattle.reading.proofs.advancing.top_place.Symbol as top-place-def
+use Rattle.reading.proofs.advancing.top_place.Symbol.{name as #top-place}
 use Rattle.reading.proofs.advancing.top_place.Met as top-place-thm
 use Rattle.levels.proofs.level_at as level-at
 use Rattle.levels.proofs.level_at.Symbol as level-at-def
+use Rattle.levels.proofs.level_at.Symbol.{name as #level-at}
 use Rattle.levels.proofs.level_at.Met as level-at-thm
 use Rattle.reading.proofs.ending.end_fed as end-fed
 use Rattle.reading.proofs.ending.end_fed.Symbol as end-fed-def
+use Rattle.reading.proofs.ending.end_fed.Symbol.{name as #end-fed}
 use Rattle.reading.proofs.ending.end_fed.Met as end-fed-thm
+use Rattle.reading.proofs.read_document.Key.{name as #read-document}
 use Rattle.reading.proofs.read_document as read-document
 use Rattle.reading.proofs.read_document.Statement as stated
 use Rattle.reading.proofs.read_document.Code as code
@@ -136,7 +142,7 @@ module _ {M : Type 1} (𝓤 : URA M) (H : Heap 𝓤) (A : Atoms 𝓤) (W : Given
       suffices ! _ (ends-at 𝓤 H A read-document.ended stayed (read-document.clauses 𝓤 H A at-mem run) W ((κs, qs, tt, a, at), tt) (end-value .val x) x (tt, ((madeBook file book), (zs, (tt, tt)))) (tt, (sames, (same, (tt, tt))))) $ says ! said $
       by ! (leaves 𝓤 H A W kinds taken 4 tt κs qs (a .0, (at-last (a .1 .0) (madeBook file book), (at-last (a .1 .1 .0) zs, (a .1 .1 .1 .0, tt)))) at (end-value .row .own x (end-value .val x ∷ [])) (end-value .makes M 𝓤 H A x (end-value .val x ∷ []) fits))
 
-  module _ (make-book-known : Meets 𝓤 H A make-book.signature (𝓣 .C #make-book) (make-book.spec 𝓤 H A at-mem run)) (checked-after-known : Meets 𝓤 H A checked-after.signature (𝓣 .C #checked-after) (checked-after.spec 𝓤 H A at-mem run)) (rule-in-known : Meets 𝓤 H A rule-in.signature (𝓣 .C #rule-in) (rule-in.spec 𝓤 H A at-mem run)) (fresh-reading-known : Meets 𝓤 H A fresh-reading.signature (𝓣 .C #fresh-reading) (fresh-reading.spec 𝓤 H A at-mem run)) (started-known : Meets 𝓤 H A started.signature (𝓣 .C #started) (started.spec 𝓤 H A at-mem run)) (feed-loop-known : Meets 𝓤 H A feed-loop.signature (𝓣 .C #feed-loop) (feed-loop.spec 𝓤 H A at-mem run)) (top-place-known : Meets 𝓤 H A top-place.signature (𝓣 .C #top-place) (top-place.spec 𝓤 H A at-mem run)) (level-at-known : Meets 𝓤 H A level-at.signature (𝓣 .C #level-at) (level-at.spec 𝓤 H A at-mem run)) (end-fed-known : Meets 𝓤 H A end-fed.signature (𝓣 .C #end-fed) (end-fed.spec 𝓤 H A at-mem run))
+  module _ (make-rule-known : Meets 𝓤 H A make-rule.signature (𝓣 .C #make-rule) (make-rule.spec 𝓤 H A at-mem run)) (rule-in-known : Meets 𝓤 H A rule-in.signature (𝓣 .C #rule-in) (rule-in.spec 𝓤 H A at-mem run)) (fresh-reading-known : Meets 𝓤 H A fresh-reading.signature (𝓣 .C #fresh-reading) (fresh-reading.spec 𝓤 H A at-mem run)) (started-known : Meets 𝓤 H A started.signature (𝓣 .C #started) (started.spec 𝓤 H A at-mem run)) (feed-loop-known : Meets 𝓤 H A feed-loop.signature (𝓣 .C #feed-loop) (feed-loop.spec 𝓤 H A at-mem run)) (top-place-known : Meets 𝓤 H A top-place.signature (𝓣 .C #top-place) (top-place.spec 𝓤 H A at-mem run)) (level-at-known : Meets 𝓤 H A level-at.signature (𝓣 .C #level-at) (level-at.spec 𝓤 H A at-mem run)) (end-fed-known : Meets 𝓤 H A end-fed.signature (𝓣 .C #end-fed) (end-fed.spec 𝓤 H A at-mem run))
       (p0 : Is (ShrSlice (named 0) (κs .0) u8) (a .0) (slice-vals (a .0))) (p1 : Is (MutSlice (named 1) (κs .1 .0) u64) (a .1 .0) (slice-vals (a .1 .0))) (p2 : Is (MutSlice (named 2) (κs .1 .1 .0) record-type) (a .1 .1 .0) (slice-vals (a .1 .1 .0))) (p3 : Is (ShrSlice (named 3) (κs .1 .1 .1 .0) u16) (a .1 .1 .1 .0) (slice-vals (a .1 .1 .1 .0))) where
     -- what the parts of a value owe
     reading-fits : (g : Going) → FitsIn going-value g → FitsIn reading-value (g .reading)
@@ -154,23 +160,22 @@ module _ {M : Type 1} (𝓤 : URA M) (H : Heap 𝓤) (A : Atoms 𝓤) (W : Given
         via 𝓤 (⋆ 𝓤 H A (File ∷ Book book ∷ Levels levels ∷ Events ∷ [])) (holds 𝓤 H A W kinds taken 4 tt κs qs a at) (qed W (File ∷ Book book ∷ Levels levels ∷ Events ∷ []) ∵
         begins ! (𝓣 .C) (𝓣 .Λ) code.function (sliceVal (a .0 .ptr) (length file) ∷ sliceVal (a .1 .0 .ptr) (length book) ∷ sliceVal (a .1 .1 .0 .ptr) (length levels) ∷ sliceVal (a .1 .1 .1 .0 .ptr) (length events) ∷ []) _
         (all-typed 𝓤 H A taken (shr-slice-lawful 𝓤 H A W (named 0) (κs .0) u8, (mut-slice-lawful 𝓤 H A W (named 1) (κs .1 .0) u64, (mut-slice-lawful 𝓤 H A W (named 2) (κs .1 .1 .0) record-type, (shr-slice-lawful 𝓤 H A W (named 3) (κs .1 .1 .1 .0) u16, tt)))) a at (p0, (p1, (p2, (p3, tt))))) (λ bs.
-        -- file, book, levels and events stand at 23 to 26
+        -- file, book, levels and events stand at 22 to 25
         lets ! (pointer ! refl refl refl) refl (tt, tt) $ lets ! (bundle ! (var ! refl) (count ! refl refl refl)) refl (tt, (tt, (record { fits = p1 .0 .1 .0 }, tt))) $
-        calls-by ! 𝓣 (23 ∷ 24 ∷ []) refl (make-book-by W at-mem run 𝓣 file book make-book-known (shown W (κs .0) (qs .0) (a .0 .name)) (relent W (κs .1 .0) (qs .1 .0) (a .1 .0 .name))) (and-then ! (var ! refl) (and-then ! (var ! refl) (no-more !))) (λ made. lands-in ! refl (storable made-value W (made .answer) (made .fits)) $
-        calls-by ! 𝓣 (23 ∷ []) refl (checked-after-by W at-mem run 𝓣 file (made .answer) checked-after-known (shown W (κs .0) (qs .0) (a .0 .name)) (made .fits)) (and-then ! (var ! refl) (and-then ! (var ! refl) (no-more !))) (λ checked. lands-in ! refl (storable checked-value W (checked .answer) (checked .fits)) $
+        calls-by ! 𝓣 (22 ∷ 23 ∷ []) refl (make-rule-by W at-mem run 𝓣 file book make-rule-known (shown W (κs .0) (qs .0) (a .0 .name)) (relent W (κs .1 .0) (qs .1 .0) (a .1 .0 .name))) (and-then ! (var ! refl) (and-then ! (var ! refl) (no-more !))) (λ checked. lands-in ! refl (storable checked-value W (checked .answer) (checked .fits)) $
         calls-by ! 𝓣 [] refl (rule-in-by W at-mem run 𝓣 rule-in-known (checked .answer) (checked .fits)) (and-then ! (var ! refl) (no-more !)) (λ rule. lands-in ! refl (storable rule-value W (ruleIn (checked .answer)) rule) $
         calls-by ! 𝓣 [] refl (fresh-reading-by W at-mem run 𝓣 (ruleIn (checked .answer)) fresh-reading-known rule) (and-then ! (var ! refl) (no-more !)) (λ first. lands-in ! refl (storable reading-value W (first .answer) (first .fits)) $
         lets ! (of-opd ! (count ! refl refl refl)) refl (tt, record { fits = p3 .0 .1 .0 }) $
         calls-by ! 𝓣 [] refl (started-by W at-mem run 𝓣 (checked .answer) (first .answer) (length events) started-known (checked .fits) (first .fits) (p3 .0 .1 .0)) (and-then ! (var ! refl) (and-then ! (var ! refl) (and-then ! (var ! refl) (no-more !)))) (λ going. lands-in ! refl (storable going-value W (begun (checked .answer) (first .answer)) going) $
         lets ! (pointer ! refl refl refl) refl (tt, tt) $ lets ! (bundle ! (var ! refl) (count ! refl refl refl)) refl (tt, (tt, (record { fits = p1 .0 .1 .0 }, tt))) $ lets ! (pointer ! refl refl refl) refl (tt, tt) $ lets ! (bundle ! (var ! refl) (count ! refl refl refl)) refl (tt, (tt, (record { fits = p2 .0 .1 .0 }, tt))) $
-        calls-by ! 𝓣 (23 ∷ 24 ∷ 25 ∷ 26 ∷ []) refl (feed-loop-by W at-mem run 𝓣 file (ruleIn (checked .answer)) (madeBook file book) largestCeiling (begun (checked .answer) (first .answer)) levels events feed-loop-known (shown W (κs .0) (qs .0) (a .0 .name)) (reshown W (κs .1 .0) (qs .1 .0) (a .1 .0 .name)) (relent W (κs .1 .1 .0) (qs .1 .1 .0) (a .1 .1 .0 .name)) (shown W (κs .1 .1 .1 .0) (qs .1 .1 .1 .0) (a .1 .1 .1 .0 .name))
-        rule (lit< tt) going (document-goes refl levels events (begun-by (made .answer) (checked .answer) (made .says) (checked .says)) (first .says))) (and-then ! (var ! refl) (and-then ! (var ! refl) (and-then ! (var ! refl) (and-then ! (big ! (lit< tt)) (and-then ! (var ! refl) (and-then ! (var ! refl) (and-then ! (var ! refl) (no-more !)))))))) (λ last. lands-in ! refl (storable going-value W (last .answer) (last .fits)) $
-        calls-by ! 𝓣 [] refl (top-by W at-mem run 𝓣 top-place-known (last .answer .reading) (reading-fits (last .answer) (last .fits))) (and-then ! (load ! (from ! (fld ! refl (stop !))) (look-in ! 10 (sub ! 0 refl (whole !)))) (no-more !)) (λ place. lands-in ! refl (tt, record { fits = place .1 }) $
+        calls-by ! 𝓣 (22 ∷ 23 ∷ 24 ∷ 25 ∷ []) refl (feed-loop-by W at-mem run 𝓣 file (ruleIn (checked .answer)) (madeBook file book) largestCeiling (begun (checked .answer) (first .answer)) levels events feed-loop-known (shown W (κs .0) (qs .0) (a .0 .name)) (reshown W (κs .1 .0) (qs .1 .0) (a .1 .0 .name)) (relent W (κs .1 .1 .0) (qs .1 .1 .0) (a .1 .1 .0 .name)) (shown W (κs .1 .1 .1 .0) (qs .1 .1 .1 .0) (a .1 .1 .1 .0 .name))
+        rule (lit< tt) going (document-goes file book refl (first .answer) levels events (begun-by file book (checked .answer) (checked .says)) (first .says))) (and-then ! (var ! refl) (and-then ! (var ! refl) (and-then ! (var ! refl) (and-then ! (big ! (lit< tt)) (and-then ! (var ! refl) (and-then ! (var ! refl) (and-then ! (var ! refl) (no-more !)))))))) (λ last. lands-in ! refl (storable going-value W (last .answer) (last .fits)) $
+        calls-by ! 𝓣 [] refl (top-by W at-mem run 𝓣 top-place-known (last .answer .reading) (reading-fits (last .answer) (last .fits))) (and-then ! (load ! (from ! (fld ! refl (stop !))) (look-in ! 9 (sub ! 0 refl (whole !)))) (no-more !)) (λ place. lands-in ! refl (tt, record { fits = place .1 }) $
         lets ! (pointer ! refl refl refl) refl (tt, tt) $ lets ! (bundle ! (var ! refl) (count ! refl refl refl)) refl (tt, (tt, (record { fits = p2 .0 .1 .0 }, tt))) $
-        calls-by ! 𝓣 (25 ∷ []) refl (looks W at-mem run 𝓣 (left (checked .answer) (first .answer)) (place .1) level-at-known (reshown W (κs .1 .1 .0) (qs .1 .1 .0) (a .1 .1 .0 .name))) (and-then ! (var ! refl) (and-then ! (var ! refl) (no-more !))) (λ fits. lands-in ! refl (storable level-value W (getD (left (checked .answer) (first .answer)) (last .answer .reading .depth - 1) blank) fits) $
-        calls-by ! 𝓣 (23 ∷ []) refl (end-fed-by W at-mem run 𝓣 file (ruleIn (checked .answer)) (last .answer) (getD (left (checked .answer) (first .answer)) (last .answer .reading .depth - 1) blank) end-fed-known (shown W (κs .0) (qs .0) (a .0 .name)) rule (last .fits) fits (document-needs refl levels events (begun-by (made .answer) (checked .answer) (made .says) (checked .says)) (first .says) (last .says)))
+        calls-by ! 𝓣 (24 ∷ []) refl (looks W at-mem run 𝓣 (left (checked .answer) (first .answer)) (place .1) level-at-known (reshown W (κs .1 .1 .0) (qs .1 .1 .0) (a .1 .1 .0 .name))) (and-then ! (var ! refl) (and-then ! (var ! refl) (no-more !))) (λ fits. lands-in ! refl (storable level-value W (getD (left (checked .answer) (first .answer)) (last .answer .reading .depth - 1) blank) fits) $
+        calls-by ! 𝓣 (22 ∷ []) refl (end-fed-by W at-mem run 𝓣 file (ruleIn (checked .answer)) (last .answer) (getD (left (checked .answer) (first .answer)) (last .answer .reading .depth - 1) blank) end-fed-known (shown W (κs .0) (qs .0) (a .0 .name)) rule (last .fits) fits (document-needs file book refl (first .answer) levels events (last .answer) (begun-by file book (checked .answer) (checked .says)) (first .says) (last .says)))
         (and-then ! (var ! refl) (and-then ! (var ! refl) (and-then ! (var ! refl) (and-then ! (var ! refl) (no-more !))))) (λ x. lands-in ! refl (storable end-value W (x .answer) (x .fits)) $
-        returns ! (look ! 0 refl) $ freed W (placed 𝓤 H (code.function .locals) bs) (some _ ∷ some _ ∷ some _ ∷ some _ ∷ some _ ∷ some _ ∷ some _ ∷ some _ ∷ some _ ∷ some _ ∷ some _ ∷ some _ ∷ some _ ∷ some _ ∷ some _ ∷ some _ ∷ some _ ∷ some _ ∷ some _ ∷ some _ ∷ some _ ∷ some _ ∷ []) $ by ! (exits (x .answer) (left (checked .answer) (first .answer)) (last .says .sameRoom) (book-stays (begun-by (made .answer) (checked .answer) (made .says) (checked .says))) (document-comes refl levels events (begun-by (made .answer) (checked .answer) (made .says) (checked .says)) (first .says) (last .says) (x .says)) (x .fits)))))))))))))
+        returns ! (look ! 0 refl) $ freed W (placed 𝓤 H (code.function .locals) bs) (some _ ∷ some _ ∷ some _ ∷ some _ ∷ some _ ∷ some _ ∷ some _ ∷ some _ ∷ some _ ∷ some _ ∷ some _ ∷ some _ ∷ some _ ∷ some _ ∷ some _ ∷ some _ ∷ some _ ∷ some _ ∷ some _ ∷ some _ ∷ some _ ∷ []) $ by ! (exits (x .answer) (left (checked .answer) (first .answer)) (last .says .sameRoom) (book-stays file book (begun-by file book (checked .answer) (checked .says))) (document-comes file book refl (first .answer) levels events (last .answer) (begun-by file book (checked .answer) (checked .says)) (first .says) (last .says) (x .says)) (x .fits))))))))))))
 
 pub read-document-spec : {M : Type 1} → stated.statement M
 unfolding code.routine tablesOf
@@ -181,8 +186,7 @@ read-document-spec 𝓤 H 𝓜 𝓖 𝓡 =
     (λ κs. (slice-vals, (slice-vals, (slice-vals, (slice-vals, tt)))))
     (λ κs. (shr-slice-tells (named 0) (κs .0) u8, (mut-slice-tells (named 1) (κs .1 .0) u64, (mut-slice-tells (named 2) (κs .1 .1 .0) record-type, (shr-slice-tells (named 3) (κs .1 .1 .1 .0) u16, tt)))))
     (λ κs qs bounds a g are. via 𝓤 _ (fst∗ 𝓤 _ (emp 𝓤)) (walk 𝓤 H (𝓖 .A) W (𝓜 .mem) (𝓡 .run) (tablesOf 𝓤 H 𝓜 (tables 𝓤 H 𝓜 𝓡 code.env)) κs qs a
-    (cited 𝓤 H (tripleOf 𝓤 H (𝓖 .A) make-book.signature (make-book.spec 𝓤 H (𝓖 .A) (𝓜 .mem) (𝓡 .run))) 𝓜 𝓡 code.env #make-book make-book-def.routine code.calls-book·make-book (make-book-thm.met 𝓤 H 𝓜 𝓖 𝓡))
-    (cited 𝓤 H (tripleOf 𝓤 H (𝓖 .A) checked-after.signature (checked-after.spec 𝓤 H (𝓖 .A) (𝓜 .mem) (𝓡 .run))) 𝓜 𝓡 code.env #checked-after checked-after-def.routine code.calls-reading·document·checked-after (checked-after-thm.met 𝓤 H 𝓜 𝓖 𝓡))
+    (cited 𝓤 H (tripleOf 𝓤 H (𝓖 .A) make-rule.signature (make-rule.spec 𝓤 H (𝓖 .A) (𝓜 .mem) (𝓡 .run))) 𝓜 𝓡 code.env #make-rule make-rule-def.routine code.calls-reading·document·make-rule (make-rule-thm.met 𝓤 H 𝓜 𝓖 𝓡))
     (cited 𝓤 H (tripleOf 𝓤 H (𝓖 .A) rule-in.signature (rule-in.spec 𝓤 H (𝓖 .A) (𝓜 .mem) (𝓡 .run))) 𝓜 𝓡 code.env #rule-in rule-in-def.routine code.calls-reading·checking·rule-in (rule-in-thm.met 𝓤 H 𝓜 𝓖 𝓡))
     (cited 𝓤 H (tripleOf 𝓤 H (𝓖 .A) fresh-reading.signature (fresh-reading.spec 𝓤 H (𝓖 .A) (𝓜 .mem) (𝓡 .run))) 𝓜 𝓡 code.env #fresh-reading fresh-reading-def.routine code.calls-reading·document·fresh-reading (fresh-reading-thm.met 𝓤 H 𝓜 𝓖 𝓡))
     (cited 𝓤 H (tripleOf 𝓤 H (𝓖 .A) started.signature (started.spec 𝓤 H (𝓖 .A) (𝓜 .mem) (𝓡 .run))) 𝓜 𝓡 code.env #started started-def.routine code.calls-reading·feeding·started (started-thm.met 𝓤 H 𝓜 𝓖 𝓡))

@@ -1,7 +1,7 @@
 -- `reading::checking::admit` meets its contract. The code is walked by hand: what is seen of the level store, and then the answer.
 -- Assumes nothing.
 use mathlib.Core.Path.{_≡_, refl, ap}
-use Prim.Native.Nat.{ℕ, _<_, _≤_, _^_}
+use Prim.Native.Nat.{ℕ, _-_, _<_, _≤_, _^_}
 use mathlib.Core.List.{List, [], _∷_}
 use mathlib.Core.Option.{some}
 use lib.ListN.{length, getD}
@@ -51,28 +51,37 @@ use Rattle.reading.specs.Checks.{abovesIn, ruleIn, Seen, readingAnswer}
 use Rattle.reading.proofs.Passed.{level-value, reading-value, rule-value, checked-value, rule-check-by, rule-in-by, depth-within-by, stored-in-by, top-by, reading-answer-by}
 use Rattle.rule.proofs.Rule.of_file as of-file
 use Rattle.rule.proofs.Rule.of_file.Symbol as of-file-def
+use Rattle.rule.proofs.Rule.of_file.Symbol.{name as #of-file}
 use Rattle.rule.proofs.Rule.of_file.Met as of-file-thm
 use Rattle.reading.proofs.checking.rule_in as rule-in
 use Rattle.reading.proofs.checking.rule_in.Symbol as rule-in-def
+use Rattle.reading.proofs.checking.rule_in.Symbol.{name as #rule-in}
 use Rattle.reading.proofs.checking.rule_in.Met as rule-in-thm
 use Rattle.levels.proofs.room as room
 use Rattle.levels.proofs.room.Symbol as room-def
+use Rattle.levels.proofs.room.Symbol.{name as #room}
 use Rattle.levels.proofs.room.Met as room-thm
 use Rattle.reading.proofs.checking.depth_within as depth-within
 use Rattle.reading.proofs.checking.depth_within.Symbol as depth-within-def
+use Rattle.reading.proofs.checking.depth_within.Symbol.{name as #depth-within}
 use Rattle.reading.proofs.checking.depth_within.Met as depth-within-thm
 use Rattle.reading.proofs.checking.stored_in as stored-in
 use Rattle.reading.proofs.checking.stored_in.Symbol as stored-in-def
+use Rattle.reading.proofs.checking.stored_in.Symbol.{name as #stored-in}
 use Rattle.reading.proofs.checking.stored_in.Met as stored-in-thm
 use Rattle.reading.proofs.advancing.top_place as top-place
 use Rattle.reading.proofs.advancing.top_place.Symbol as top-place-def
+use Rattle.reading.proofs.advancing.top_place.Symbol.{name as #top-place}
 use Rattle.reading.proofs.advancing.top_place.Met as top-place-thm
 use Rattle.levels.proofs.level_at as level-at
 use Rattle.levels.proofs.level_at.Symbol as level-at-def
+use Rattle.levels.proofs.level_at.Symbol.{name as #level-at}
 use Rattle.levels.proofs.level_at.Met as level-at-thm
 use Rattle.reading.proofs.checking.reading_answer as reading-answer
 use Rattle.reading.proofs.checking.reading_answer.Symbol as reading-answer-def
+use Rattle.reading.proofs.checking.reading_answer.Symbol.{name as #reading-answer}
 use Rattle.reading.proofs.checking.reading_answer.Met as reading-answer-thm
+use Rattle.reading.proofs.checking.admit.Key.{name as #admit}
 use Rattle.reading.proofs.checking.admit as admit
 use Rattle.reading.proofs.checking.admit.Statement as stated
 use Rattle.reading.proofs.checking.admit.Code as code
@@ -145,7 +154,7 @@ module _ {M : Type 1} (𝓤 : URA M) (H : Heap 𝓤) (A : Atoms 𝓤) (W : Given
         calls-by ! 𝓣 (14 ∷ []) refl (reading-answer-by W at-mem run 𝓣 (checked .answer) book r (length levels) (abovesIn (ruleIn (checked .answer) .states) (depth .answer) levels) (getD levels (r .depth - 1) blank) reading-answer-known (shown W (κs .1 .0) (qs .1 .0) (a .1 .0 .name))
         (checked .fits) p2 (count .1) top (file, checked .says) (levels, seen (ruleIn (checked .answer) .states) (depth .answer) (depth .says)))
         (and-then ! (var ! refl) (and-then ! (var ! refl) (and-then ! (var ! refl) (and-then ! (var ! refl) (and-then ! (var ! refl) (and-then ! (var ! refl) (no-more !))))))) (λ x. lands-in ! refl (storable checked-value W (x .answer) (x .fits)) $
-        returns ! (look ! 0 refl) $ freed W (placed 𝓤 H (code.function .locals) bs) (some _ ∷ some _ ∷ some _ ∷ some _ ∷ some _ ∷ some _ ∷ some _ ∷ some _ ∷ some _ ∷ some _ ∷ some _ ∷ some _ ∷ []) $ by ! (exits (x .answer) (x .says file levels (checked .says) (seen (ruleIn (checked .answer) .states) (depth .answer) (depth .says))) (x .fits)))))))))))
+        returns ! (look ! 0 refl) $ freed W (placed 𝓤 H (code.function .locals) bs) (some _ ∷ some _ ∷ some _ ∷ some _ ∷ some _ ∷ some _ ∷ some _ ∷ some _ ∷ some _ ∷ some _ ∷ some _ ∷ some _ ∷ []) $ by ! (exits (x .answer) (x .says file levels (checked .says) (seen (ruleIn (checked .answer) .states) (depth .answer) (depth .says))) (x .fits))))))))))))
 
 pub admit-spec : {M : Type 1} → stated.statement M
 unfolding code.routine tablesOf
