@@ -10,3 +10,4 @@ pub mod ArrayLoans
 pub mod Lines
 pub mod Parameters
 pub mod Values
+pub mod ArrayFields

@@ -1,7 +1,7 @@
 -- `reading::finish_array` meets its contract. The code is walked by hand: an array of its own is shown to `finish`.
 -- Assumes nothing.
 use mathlib.Core.Path.{_≡_, refl}
-use Prim.Native.Nat.{ℕ, _<_}
+use Prim.Native.Nat.{ℕ, _-_, _<_}
 use mathlib.Core.List.{List, [], _∷_}
 use mathlib.Core.Option.{some}
 use lib.Dec.{lit<}
@@ -18,7 +18,7 @@ use contract.Lifetimes.{Lfts, Shares}
 use contract.Monad.{Fun}
 use contract.Running.{givenOf, tables, tablesOf}
 use types.Kit.{Given, Item, ‵, ⋆, _$_, _∵_, !, qed, by, suffices}
-use types.Run.{look, no-more, and-then, stop, from, addr, returns}
+use types.Run.{look, no-more, and-then, of-opd, stop, from, addr, returns}
 use denote.RattleType.{RattleType}
 use denote.Laws.{Is, all-typed}
 use denote.Array.{Array, array-tells, array-lawful}
@@ -45,6 +45,10 @@ use Rattle.meaning.specs.Calls.{endSays, finishCall}
 use Rattle.meaning.specs.declared.End.{End}
 use Rattle.reading.proofs.Passed.{level-value, reading-value}
 use Rattle.reading.proofs.Called.{end-value, finish-by}
+use Rattle.meaning.proofs.Level.Laws as L′
+use mir.Syntax.{tyArray}
+use mir.Val.{hasTy, WT}
+use lib.Dec.{T}
 use Rattle.reading.proofs.finish as finish
 use Rattle.reading.proofs.finish.Symbol as finish-def
 use Rattle.reading.proofs.finish.Symbol.{name as #finish}
@@ -96,16 +100,19 @@ module _ {M : Type 1} (𝓤 : URA M) (H : Heap 𝓤) (A : Atoms 𝓤) (W : Given
 
   module _ (finish-known : Meets 𝓤 H A finish.signature (𝓣 .C #finish) (finish.spec 𝓤 H A at-mem run))
       (p0 : Is (ShrSlice (named 0) (κs .0) u8) (a .0) (slice-vals (a .0))) (p1 : Is (ShrSlice (named 1) (κs .1 .0) u64) (a .1 .0) (slice-vals (a .1 .0))) (p2 : FitsIn reading-value r) (p3 : Fine record-type machine 1024 levels) where
+    array-typed : (zs : List Level) → Fine record-type machine 1024 zs → T (hasTy (tyArray L′.mir 1024) (array-val record-type machine zs)) × WT (array-val record-type machine zs)
+    array-typed zs fine = array-lawful 𝓤 H A W record-type (level-value .lawful M 𝓤 H A W) 1024 .typed zs (array-val record-type machine zs ∷ []) fine .0
 
     walk : ent 𝓤 (onEntry 𝓤 H A finish-array.signature κs qs a at) (WpFn 𝓤 H (𝓣 .C) (𝓣 .Λ) code.function (sliceVal (a .0 .ptr) (length file) ∷ sliceVal (a .1 .0 .ptr) (length book) ∷ reading-value .val r ∷ array-val record-type machine levels ∷ []) Post)
     walk =
         via 𝓤 (⋆ 𝓤 H A (File ∷ Book ∷ [])) (holds 𝓤 H A W kinds taken 2 tt κs qs a at) (qed W (File ∷ Book ∷ []) ∵
         begins ! (𝓣 .C) (𝓣 .Λ) code.function (sliceVal (a .0 .ptr) (length file) ∷ sliceVal (a .1 .0 .ptr) (length book) ∷ reading-value .val r ∷ array-val record-type machine levels ∷ []) _
         (all-typed 𝓤 H A taken (shr-slice-lawful 𝓤 H A W (named 0) (κs .0) u8, (shr-slice-lawful 𝓤 H A W (named 1) (κs .1 .0) u64, (reading-value .lawful M 𝓤 H A W, (array-lawful 𝓤 H A W record-type (level-value .lawful M 𝓤 H A W) 1024, tt)))) a at (p0, (p1, (p2, (p3, tt))))) (λ bs.
-        -- file and book stand at 8 and 9, and the array at its own place, 4
+        -- file and book stand at 9 and 10, and the array at its own place, 5
+        lets ! (of-opd ! (var ! refl)) refl (array-typed levels p3) $
         lets ! (addr ! (from ! (stop !))) refl (tt, tt) $ lets ! (bundle ! (var ! refl) (big ! (lit< tt))) refl (tt, (tt, (record { fits = lit< tt }, tt))) $
-        calls-by ! 𝓣 (8 ∷ 9 ∷ 4 ∷ []) refl (finish-by W at-mem run 𝓣 file book r levels finish-known (shown W (κs .0) (qs .0) (a .0 .name)) (shown W (κs .1 .0) (qs .1 .0) (a .1 .0 .name)) (shown-array record-type machine tells tt W (makes 𝓤 H A) (lit< tt, lit< tt) p3) p2) (and-then ! (var ! refl) (and-then ! (var ! refl) (and-then ! (var ! refl) (and-then ! (var ! refl) (no-more !))))) (λ x. lands-in ! refl (storable end-value W (x .answer) (x .fits)) $
-        returns ! (look ! 0 refl) $ freed W (placed 𝓤 H (code.function .locals) bs) (some _ ∷ some _ ∷ some _ ∷ some _ ∷ some _ ∷ some _ ∷ some _ ∷ []) $ by ! (exits (x .answer) (x .says) (x .fits)))))
+        calls-by ! 𝓣 (9 ∷ 10 ∷ 5 ∷ []) refl (finish-by W at-mem run 𝓣 file book r levels finish-known (shown W (κs .0) (qs .0) (a .0 .name)) (shown W (κs .1 .0) (qs .1 .0) (a .1 .0 .name)) (shown-array record-type machine tells tt W (makes 𝓤 H A) (lit< tt, lit< tt) p3) p2) (and-then ! (var ! refl) (and-then ! (var ! refl) (and-then ! (var ! refl) (and-then ! (var ! refl) (no-more !))))) (λ x. lands-in ! refl (storable end-value W (x .answer) (x .fits)) $
+        returns ! (look ! 0 refl) $ freed W (placed 𝓤 H (code.function .locals) bs) (some _ ∷ some _ ∷ some _ ∷ some _ ∷ some _ ∷ some _ ∷ some _ ∷ some _ ∷ []) $ by ! (exits (x .answer) (x .says) (x .fits)))))
 
 pub finish-array-spec : {M : Type 1} → stated.statement M
 unfolding code.routine tablesOf

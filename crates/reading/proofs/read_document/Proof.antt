@@ -20,7 +20,7 @@ use contract.Monad.{Fun}
 use contract.Running.{givenOf, tables, tablesOf}
 use types.Kit.{Given, Item, ‵, ⋆, _$_, _∵_, !, qed, by, suffices}
 use types.Part.{whole, sub, look-in}
-use types.Run.{look, no-more, and-then, of-opd, stop, fld, from, load, returns}
+use types.Run.{look, neg-lit, no-more, and-then, of-opd, stop, fld, from, load, returns}
 use denote.RattleType.{RattleType}
 use denote.Laws.{Is, all-typed}
 use denote.Builtin.{u8, u16, u64}
@@ -38,7 +38,7 @@ use Rattle.meaning.specs.declared.Reading.{Reading}
 use Rattle.meaning.specs.FullReading.{blank}
 use Rattle.levels.proofs.Values.{FitsIn, storable}
 use Rattle.levels.proofs.Locals.{placed, freed}
-use Rattle.levels.proofs.Lines.{var, big, count, pointer, bundle, lets, lands-in, begins}
+use Rattle.levels.proofs.Lines.{var, count, pointer, bundle, lets, lands-in, begins}
 use Rattle.levels.proofs.Parameters.{Kind, shared, unique, holds, leaves}
 use Rattle.levels.proofs.Meets.{proved}
 use Rattle.levels.proofs.Element.{record-type, makes}
@@ -169,7 +169,7 @@ module _ {M : Type 1} (𝓤 : URA M) (H : Heap 𝓤) (A : Atoms 𝓤) (W : Given
         calls-by ! 𝓣 [] refl (started-by W at-mem run 𝓣 (checked .answer) (first .answer) (length events) started-known (checked .fits) (first .fits) (p3 .0 .1 .0)) (and-then ! (var ! refl) (and-then ! (var ! refl) (and-then ! (var ! refl) (no-more !)))) (λ going. lands-in ! refl (storable going-value W (begun (checked .answer) (first .answer)) going) $
         lets ! (pointer ! refl refl refl) refl (tt, tt) $ lets ! (bundle ! (var ! refl) (count ! refl refl refl)) refl (tt, (tt, (record { fits = p1 .0 .1 .0 }, tt))) $ lets ! (pointer ! refl refl refl) refl (tt, tt) $ lets ! (bundle ! (var ! refl) (count ! refl refl refl)) refl (tt, (tt, (record { fits = p2 .0 .1 .0 }, tt))) $
         calls-by ! 𝓣 (22 ∷ 23 ∷ 24 ∷ 25 ∷ []) refl (feed-loop-by W at-mem run 𝓣 file (ruleIn (checked .answer)) (madeBook file book) largestCeiling (begun (checked .answer) (first .answer)) levels events feed-loop-known (shown W (κs .0) (qs .0) (a .0 .name)) (reshown W (κs .1 .0) (qs .1 .0) (a .1 .0 .name)) (relent W (κs .1 .1 .0) (qs .1 .1 .0) (a .1 .1 .0 .name)) (shown W (κs .1 .1 .1 .0) (qs .1 .1 .1 .0) (a .1 .1 .1 .0 .name))
-        rule (lit< tt) going (document-goes file book refl (first .answer) levels events (begun-by file book (checked .answer) (checked .says)) (first .says))) (and-then ! (var ! refl) (and-then ! (var ! refl) (and-then ! (var ! refl) (and-then ! (big ! (lit< tt)) (and-then ! (var ! refl) (and-then ! (var ! refl) (and-then ! (var ! refl) (no-more !)))))))) (λ last. lands-in ! refl (storable going-value W (last .answer) (last .fits)) $
+        rule (lit< tt) going (document-goes file book refl (first .answer) levels events (begun-by file book (checked .answer) (checked .says)) (first .says))) (and-then ! (var ! refl) (and-then ! (var ! refl) (and-then ! (var ! refl) (and-then ! (neg-lit ! tt) (and-then ! (var ! refl) (and-then ! (var ! refl) (and-then ! (var ! refl) (no-more !)))))))) (λ last. lands-in ! refl (storable going-value W (last .answer) (last .fits)) $
         calls-by ! 𝓣 [] refl (top-by W at-mem run 𝓣 top-place-known (last .answer .reading) (reading-fits (last .answer) (last .fits))) (and-then ! (load ! (from ! (fld ! refl (stop !))) (look-in ! 9 (sub ! 0 refl (whole !)))) (no-more !)) (λ place. lands-in ! refl (tt, record { fits = place .1 }) $
         lets ! (pointer ! refl refl refl) refl (tt, tt) $ lets ! (bundle ! (var ! refl) (count ! refl refl refl)) refl (tt, (tt, (record { fits = p2 .0 .1 .0 }, tt))) $
         calls-by ! 𝓣 (24 ∷ []) refl (looks W at-mem run 𝓣 (left (checked .answer) (first .answer)) (place .1) level-at-known (reshown W (κs .1 .1 .0) (qs .1 .1 .0) (a .1 .1 .0 .name))) (and-then ! (var ! refl) (and-then ! (var ! refl) (no-more !))) (λ fits. lands-in ! refl (storable level-value W (getD (left (checked .answer) (first .answer)) (last .answer .reading .depth - 1) blank) fits) $
