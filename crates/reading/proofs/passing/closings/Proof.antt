@@ -1,7 +1,7 @@
 -- `reading::passing::closings` meets its contract: one or none, by the event's number.
 -- Assumes nothing.
 use mathlib.Core.Path.{sym}
-use Rattle.reading.proofs.PassesOn.{closes-one, closes-none}
+use Rattle.reading.proofs.Counting.{closes-one, closes-none}
 use Rattle.reading.proofs.passing.closings.Statement.{statement}
 use Rattle.reading.proofs.passing.closings.Tie as tie
 

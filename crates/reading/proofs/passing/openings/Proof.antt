@@ -1,7 +1,7 @@
 -- `reading::passing::openings` meets its contract: one or none, by the event's number.
 -- Assumes nothing.
 use mathlib.Core.Path.{sym}
-use Rattle.reading.proofs.PassesOn.{opens-one, opens-none}
+use Rattle.reading.proofs.Counting.{opens-one, opens-none}
 use Rattle.reading.proofs.passing.openings.Statement.{statement}
 use Rattle.reading.proofs.passing.openings.Tie as tie
 
