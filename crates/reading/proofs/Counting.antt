@@ -12,7 +12,7 @@ use lib.ListN.{length, getD, take, drop, length-append, length-take, length-drop
 use lib.Seq.{take-suc, take-add, take-length, length-take-le, drop-drop, getD-drop}
 use Rattle.meaning.specs.Answers.{_=?_, _≤?_, if_then_else_}
 use Rattle.meaning.proofs.Answered.{if-true, if-false}
-use Rattle.reading.specs.PassingOver.{openings, closings, unknowns, total, CountsOf, Passing, passNone, passOne, oneMore, joined, DepthsOf}
+use Rattle.reading.specs.PassingOver.{openings, closings, unknowns, total, CountsOf, Passing, passNone, passOne, oneMore, joined, DepthsOf, PassedIn}
 use Rattle.reading.specs.declared.passing.Counts.{Counts}
 use Rattle.reading.specs.declared.passing.Depths.{Depths}
 
@@ -70,7 +70,7 @@ module _ (known : ℕ) where
   is-known e h = leb-false known e (none-false (known ≤? e) h)
 
 -- an event does not do both
-one-kind : (e : ℕ) → openings e + closings e ≤ 1
+pub one-kind : (e : ℕ) → openings e + closings e ≤ 1
 one-kind zero = omega (arith, opens-few 0, closes-none 0 (omega arith))
 one-kind (suc e) = omega (arith, opens-none (suc e) (omega arith), closes-few (suc e))
 
@@ -161,7 +161,14 @@ outlasted (e ∷ es) skip h =
     let next : ℕ = skip + openings e - closings e in
     let rest = outlasted es next (omega arith) in
     let n : skip + (openings e + total openings es) - (closings e + total closings es) ≡ next + total openings es - total closings es = omega arith in
-    rw n (passOne {skip = skip} (omega arith) rest)
+    rw n (passOne {skip = skip} {e = e} (omega arith) rest)
+
+-- all of a run was passed over
+pub passed-whole : (known skip skip′ : ℕ) (events : List ℕ) → total (unknowns known) events ≡ 0 → Passing skip events skip′
+    → PassedIn known skip events (record { count = length events; skip = skip′ })
+passed-whole known skip skip′ events is p =
+    let whole = take-length events in
+    record { within = omega arith; allKnown = rw whole is; passing = rw whole p }
 
 -- ---- the depths of a run
 
@@ -222,5 +229,8 @@ depths-join events at m n d d′ h h′ =
     rw (take-add m n (drop at events), drop-drop m at events) (depths-append m n (take m (drop at events)) (take n (drop (at + m) events)) d d′ h h′)
 
 -- how far they go
-pub depths-few : (n : ℕ) (events : List ℕ) (d : Depths) → DepthsOf n (take n events) d → (d .lowest ≤ n) × (d .last ≤ n + n)
-depths-few n events d h = (h .notAbove, omega (arith, h .fewOpens, length-take n events))
+pub depths-room : (begin i : ℕ) (events : List ℕ) (d : Depths) → DepthsOf begin (take i events) d
+    → (d .lowest ≤ begin) × (d .last ≤ begin + i) × (i < begin → 0 < d .last)
+depths-room begin i events d h =
+    let n = length-take i events in
+    (h .notAbove, omega (arith, h .fewOpens), λ room. omega (arith, h .fewCloses, h .notPast))

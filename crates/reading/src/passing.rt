@@ -44,21 +44,21 @@ struct Passed {
 
 // How many trees an event opens.
 fn openings(event: u16) -> u16
-    ensures { λ r. ⌜ r ≡ openings event ⌝ }
+    ensures { λ r. ⌜ (r ≡ openings event) × (r ≤ 1) ⌝ }
 {
     if event == 0 { 1 } else { 0 }
 }
 
 // How many trees an event closes.
 fn closings(event: u16) -> u16
-    ensures { λ r. ⌜ r ≡ closings event ⌝ }
+    ensures { λ r. ⌜ (r ≡ closings event) × (r ≤ 1) ⌝ }
 {
     if event == 1 { 1 } else { 0 }
 }
 
 // One for an event that is unknown.
 fn unknowns(known: u16, event: u16) -> u16
-    ensures { λ r. ⌜ r ≡ unknowns known event ⌝ }
+    ensures { λ r. ⌜ (r ≡ unknowns known event) × (r ≤ 1) ⌝ }
 {
     if known <= event { 1 } else { 0 }
 }

@@ -1,16 +1,11 @@
 use borrow.Author.Needs.{needs}
 use Prim.Native.Nat.{_-_, _≤_}
 use native.Mathlib.Omega.{arith}
-use lib.ListN.{length, take, getD}
+use lib.ListN.{length, take}
 use Rattle.reading.specs.PassingOver.{CountsOf}
-use Rattle.reading.proofs.Counting.{opens-few, closes-few, unknown-few, counts-none, counts-more, counts-few, counts-all}
+use Rattle.reading.proofs.Counting.{counts-none, counts-more, counts-few, counts-all}
 use Rattle.reading.proofs.passing.count.Statement.{statement}
 use Rattle.reading.proofs.passing.count.Tie as tie
-use Rattle.reading.proofs.passing.count.Reads as reads
-use Rattle.reading.proofs.passing.count.Lts as lts
-use Rattle.reading.proofs.passing.closings.Reads as closings-reads
-use Rattle.reading.proofs.passing.openings.Reads as openings-reads
-use Rattle.reading.proofs.passing.unknowns.Reads as unknowns-reads
 
 abbrev Inv-loop : tie.InvT-loop
 Inv-loop known block opens₀ closes₀ unknown₀ i₀ opens closes unknown i =
@@ -19,65 +14,51 @@ Inv-loop known block opens₀ closes₀ unknown₀ i₀ opens closes unknown i =
 abbrev μ-loop : tie.MeasureT-loop
 μ-loop known block opens₀ closes₀ unknown₀ i₀ opens closes unknown i = length block - i
 
--- src/passing.rt:67:5
 loop-holds : tie.Need-loop-holds Inv-loop μ-loop
 loop-holds c = (omega arith, counts-none (c .before .args .known) (c .before .args .block .now))
 
--- src/passing.rt:68:21
 mul-event : tie.Need-mul-event Inv-loop μ-loop
 mul-event c = omega arith
 
--- src/passing.rt:68:21
 shared-slice-read-event : tie.Need-shared-slice-read-event Inv-loop μ-loop
 shared-slice-read-event c = omega arith
 
--- src/passing.rt:69:18
 openings-requires : tie.Need-openings-requires Inv-loop μ-loop
 openings-requires c κs = search needs
 
--- src/passing.rt:69:9
 add-opens : tie.Need-add-opens Inv-loop μ-loop
 add-opens c =
-    let inv = c .before .before .before .loop .inv in
-    omega (arith, c .openings .ensures, opens-few (getD (c .before .before .before .before .before .args .block .now) (c .before .before .before .loop .i) 0), counts-few _ _ _ _ (inv .0) (inv .1) .0)
+    let loop = c .before .before .before .loop in
+    omega (arith, counts-few _ _ (loop .i) _ (loop .inv .0) (loop .inv .1) .0)
 
--- src/passing.rt:70:19
 closings-requires : tie.Need-closings-requires Inv-loop μ-loop
 closings-requires c κs = search needs
 
--- src/passing.rt:70:9
 add-closes : tie.Need-add-closes Inv-loop μ-loop
 add-closes c =
-    let inv = c .before .before .before .before .loop .inv in
-    omega (arith, c .closings .ensures, closes-few (getD (c .before .before .before .before .before .before .args .block .now) (c .before .before .before .before .loop .i) 0), counts-few _ _ _ _ (inv .0) (inv .1) .1)
+    let loop = c .before .before .before .before .loop in
+    omega (arith, counts-few _ _ (loop .i) _ (loop .inv .0) (loop .inv .1) .1)
 
--- src/passing.rt:71:20
 unknowns-requires : tie.Need-unknowns-requires Inv-loop μ-loop
 unknowns-requires c κs = search needs
 
--- src/passing.rt:71:9
 add-unknown : tie.Need-add-unknown Inv-loop μ-loop
 add-unknown c =
-    let inv = c .before .before .before .before .before .loop .inv in
-    let a = c .before .before .before .before .before .before .before .args in
-    omega (arith, c .unknowns .ensures, unknown-few (a .known) (getD (a .block .now) (c .before .before .before .before .before .loop .i) 0), counts-few _ _ _ _ (inv .0) (inv .1) .2)
+    let loop = c .before .before .before .before .before .loop in
+    omega (arith, counts-few _ _ (loop .i) _ (loop .inv .0) (loop .inv .1) .2)
 
--- src/passing.rt:72:9
 add-i : tie.Need-add-i Inv-loop μ-loop
 add-i c = omega arith
 
--- src/passing.rt:67:5
 loop-less : tie.Need-loop-less Inv-loop μ-loop
 loop-less c = omega arith
 
--- src/passing.rt:67:5
 loop-again : tie.Need-loop-again Inv-loop μ-loop
 loop-again c =
     let inv = c .before .before .before .before .before .loop .inv in
     let a = c .before .before .before .before .before .before .before .args in
-    (omega arith, rw (c .before .before .openings .ensures, c .before .closings .ensures, c .unknowns .ensures) (counts-more (a .known) (a .block .now) (c .before .before .before .before .before .loop .i) _ (omega arith) (inv .1)))
+    (omega arith, rw (c .before .before .openings .ensures .0, c .before .closings .ensures .0, c .unknowns .ensures .0) (counts-more (a .known) (a .block .now) (c .before .before .before .before .before .loop .i) _ (omega arith) (inv .1)))
 
--- src/passing.rt:59:1
 returns : tie.Need-returns Inv-loop μ-loop
 returns c =
     let a = c .before .before .before .args in
