@@ -51,27 +51,32 @@ fn take_events(
 ) -> Pass {
     let after = reading::feed_array(file, book, CEILING, reading, levels, events);
     let fed = after.fed;
+    let next = fed.reading;
+    let ended = fed.ended;
+    let left = after.levels;
     Pass {
-        reading: fed.reading,
-        ended: fed.ended,
-        levels: after.levels,
+        reading: next,
+        ended,
+        levels: left,
     }
 }
 
 // More events.
 pub fn go_on(file: &[u8], book: &[u64], pass: Pass, events: &[u16]) -> Pass {
     let ended = pass.ended;
+    let levels = pass.levels;
     match ended {
         Feeding::Refused(_) => pass,
-        Feeding::AllTaken => take_events(file, book, pass.reading, pass.levels, events),
+        Feeding::AllTaken => take_events(file, book, pass.reading, levels, events),
     }
 }
 
 // After the last event.
 pub fn end_of(file: &[u8], book: &[u64], pass: Pass) -> End {
     let ended = pass.ended;
+    let levels = pass.levels;
     match ended {
         Feeding::Refused(refusal) => End::Refused(refusal),
-        Feeding::AllTaken => reading::finish_array(file, book, pass.reading, pass.levels),
+        Feeding::AllTaken => reading::finish_array(file, book, pass.reading, levels),
     }
 }
