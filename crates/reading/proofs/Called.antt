@@ -84,7 +84,7 @@ gone-store : {w : Went Stored} {before : Reading} {room : ℕ} {g : Going} {stor
 gone-store h = sym (ap (λ (w : Went Stored). w .last .store) (h .comes))
 
 module _ {M : Type 1} {𝓤 : URA M} {H : Heap 𝓤} {A : Atoms 𝓤} (W : Given 𝓤 H A) (at-mem : Memory → SProp 𝓤) (run : Routine → Fun 𝓤) (𝓣 : Tables 𝓤 H) where
-  pub admit-by : (file : List ℕ) (book : List ℕ) (r : Reading) (levels : List Level) → Meets 𝓤 H A admit.signature (𝓣 .C #admit) (admit.spec 𝓤 H A at-mem run) → {b₀ o₀ n₀ b₁ o₁ n₁ b₂ o₂ n₂ : ℕ} (l₀ : ShrLoan 𝓤 H A u8 b₀ o₀ n₀ file) (l₁ : ShrLoan 𝓤 H A u64 b₁ o₁ n₁ book) (l₂ : ShrLoan 𝓤 H A record-type b₂ o₂ n₂ levels) → FitsIn reading-value r 
+  pub admit-by : (file : List ℕ) (book : List ℕ) (r : Reading) (levels : List Level) → Meets 𝓤 H A admit.signature (𝓣 .C #admit) (admit.spec 𝓤 H A at-mem run) → {b₀ o₀ n₀ b₁ o₁ n₁ b₂ o₂ n₂ : ℕ} (l₀ : ShrLoan 𝓤 H A u8 b₀ o₀ n₀ file) (l₁ : ShrLoan 𝓤 H A u64 b₁ o₁ n₁ book) (l₂ : ShrLoan 𝓤 H A record-type b₂ o₂ n₂ levels) → FitsIn reading-value r
       → Gives 𝓤 H A (𝓣 .C #admit) (l₀ .before ∷ l₁ .before ∷ l₂ .before ∷ []) (sliceVal (b₀, o₀) n₀ ∷ sliceVal (b₁, o₁) n₁ ∷ reading-value .val r ∷ sliceVal (b₂, o₂) n₂ ∷ [])
       (Said (checked-value .row) (checked-value .val) (λ x. checkedSays x ≡ readingAnswer file book r levels)) (λ x. checked-value .val (x .answer)) (λ _. l₀ .before ∷ l₁ .before ∷ l₂ .before ∷ [])
   admit-by file book r levels known {b₀} {o₀} {n₀} {b₁} {o₁} {n₁} {b₂} {o₂} {n₂} l₀ l₁ l₂ f2 =
@@ -92,7 +92,7 @@ module _ {M : Type 1} {𝓤 : URA M} {H : Heap 𝓤} {A : Atoms 𝓤} (W : Given
       (λ z. known (((l₀ .lifetime (z .0), (l₁ .lifetime (z .1 .0), (l₂ .lifetime (z .1 .1 .0), tt))), (l₀ .share (z .0), (l₁ .share (z .1 .0), (l₂ .share (z .1 .1 .0), tt))), tt, (at-list u8 (l₀ .name (z .0)) b₀ o₀ file, (at-list u64 (l₁ .name (z .1 .0)) b₁ o₁ book, (r, (at-list record-type (l₂ .name (z .1 .1 .0)) b₂ o₂ levels, tt)))), (sliceVal (b₀, o₀) n₀ ∷ [], (sliceVal (b₁, o₁) n₁ ∷ [], (reading-value .val r ∷ [], (sliceVal (b₂, o₂) n₂ ∷ [], tt))))), tt))
       (λ x ws e. (e, refl))
 
-  pub started-by : (checked : Checked) (r : Reading) (count : ℕ) → Meets 𝓤 H A started.signature (𝓣 .C #started) (started.spec 𝓤 H A at-mem run) → FitsIn checked-value checked → FitsIn reading-value r → count < 2 ^ 64 
+  pub started-by : (checked : Checked) (r : Reading) (count : ℕ) → Meets 𝓤 H A started.signature (𝓣 .C #started) (started.spec 𝓤 H A at-mem run) → FitsIn checked-value checked → FitsIn reading-value r → count < 2 ^ 64
       → Gives 𝓤 H A (𝓣 .C #started) ([]) (checked-value .val checked ∷ reading-value .val r ∷ vint w64 count ∷ [])
       (FitsIn going-value (startOf checked r count)) (λ _. going-value .val (startOf checked r count)) (λ _. [])
   started-by checked r count known f0 f1 f2 =
@@ -100,7 +100,7 @@ module _ {M : Type 1} {𝓤 : URA M} {H : Heap 𝓤} {A : Atoms 𝓤} (W : Given
       (λ z. known ((tt, tt, tt, (checked, (r, (count, tt))), (checked-value .val checked ∷ [], (reading-value .val r ∷ [], (vint w64 count ∷ [], tt)))), tt))
       (λ x ws e. (e, refl))
 
-  pub feed-loop-by : (file : List ℕ) (rule : Rule) (book : List ℕ) (ceiling : ℕ) (going : Going) (levels : List Level) (events : List ℕ) → Meets 𝓤 H A feed-loop.signature (𝓣 .C #feed-loop) (feed-loop.spec 𝓤 H A at-mem run) → {b₀ o₀ n₀ b₁ o₁ n₁ b₂ o₂ n₂ b₃ o₃ n₃ : ℕ} (l₀ : ShrLoan 𝓤 H A u8 b₀ o₀ n₀ file) (l₁ : ShrLoan 𝓤 H A u64 b₁ o₁ n₁ book) (l₂ : MutLoan 𝓤 H A record-type b₂ o₂ n₂ levels) (l₃ : ShrLoan 𝓤 H A u16 b₃ o₃ n₃ events) → FitsIn rule-value rule → ceiling < 2 ^ 32 → FitsIn going-value going → (Goes file rule book levels events going) 
+  pub feed-loop-by : (file : List ℕ) (rule : Rule) (book : List ℕ) (ceiling : ℕ) (going : Going) (levels : List Level) (events : List ℕ) → Meets 𝓤 H A feed-loop.signature (𝓣 .C #feed-loop) (feed-loop.spec 𝓤 H A at-mem run) → {b₀ o₀ n₀ b₁ o₁ n₁ b₂ o₂ n₂ b₃ o₃ n₃ : ℕ} (l₀ : ShrLoan 𝓤 H A u8 b₀ o₀ n₀ file) (l₁ : ShrLoan 𝓤 H A u64 b₁ o₁ n₁ book) (l₂ : MutLoan 𝓤 H A record-type b₂ o₂ n₂ levels) (l₃ : ShrLoan 𝓤 H A u16 b₃ o₃ n₃ events) → FitsIn rule-value rule → ceiling < 2 ^ 32 → FitsIn going-value going → (Goes file rule book levels events going)
       → Gives 𝓤 H A (𝓣 .C #feed-loop) (l₀ .before ∷ l₁ .before ∷ l₂ .before ∷ l₃ .before ∷ []) (sliceVal (b₀, o₀) n₀ ∷ rule-value .val rule ∷ sliceVal (b₁, o₁) n₁ ∷ vint w32 ceiling ∷ going-value .val going ∷ sliceVal (b₂, o₂) n₂ ∷ sliceVal (b₃, o₃) n₃ ∷ [])
       (Said (going-value .row) (going-value .val) (λ x. Gone (rest (ruleOf file) book ceiling levels events going) (going .reading) (length levels) x (rest (ruleOf file) book ceiling levels events going .last .store))) (λ x. going-value .val (x .answer)) (λ _. l₀ .before ∷ l₁ .before ∷ l₂ .after (rest (ruleOf file) book ceiling levels events going .last .store) ∷ l₃ .before ∷ [])
   feed-loop-by file rule book ceiling going levels events known {b₀} {o₀} {n₀} {b₁} {o₁} {n₁} {b₂} {o₂} {n₂} {b₃} {o₃} {n₃} l₀ l₁ l₂ l₃ f1 f3 f4 need0 =
@@ -108,7 +108,7 @@ module _ {M : Type 1} {𝓤 : URA M} {H : Heap 𝓤} {A : Atoms 𝓤} (W : Given
       (λ z. known (((l₀ .lifetime (z .0), (l₁ .lifetime (z .1 .0), (l₂ .lifetime (z .1 .1 .0), (l₃ .lifetime (z .1 .1 .1 .0), tt)))), (l₀ .share (z .0), (l₁ .share (z .1 .0), (l₂ .share (z .1 .1 .0), (l₃ .share (z .1 .1 .1 .0), tt)))), tt, (at-list u8 (l₀ .name (z .0)) b₀ o₀ file, (rule, (at-list u64 (l₁ .name (z .1 .0)) b₁ o₁ book, (ceiling, (going, (at-list record-type (l₂ .name (z .1 .1 .0)) b₂ o₂ levels, (at-list u16 (l₃ .name (z .1 .1 .1 .0)) b₃ o₃ events, tt))))))), (sliceVal (b₀, o₀) n₀ ∷ [], (rule-value .val rule ∷ [], (sliceVal (b₁, o₁) n₁ ∷ [], (vint w32 ceiling ∷ [], (going-value .val going ∷ [], (sliceVal (b₂, o₂) n₂ ∷ [], (sliceVal (b₃, o₃) n₃ ∷ [], tt)))))))), tt))
       (λ x ws e. (subst (Gone (rest (ruleOf file) book ceiling levels events going) (going .reading) (length levels) x) (gone-store e) e, ap (λ (zs : List Level). (tt, (tt, (tt, (tt, (tt, (zs, (tt, tt)))))))) (gone-store e)))
 
-  pub fed-of-by : (before : Reading) (going : Going) → Meets 𝓤 H A fed-of.signature (𝓣 .C #fed-of) (fed-of.spec 𝓤 H A at-mem run) → FitsIn reading-value before → FitsIn going-value going → (before .taken ≤ going .reading .taken) 
+  pub fed-of-by : (before : Reading) (going : Going) → Meets 𝓤 H A fed-of.signature (𝓣 .C #fed-of) (fed-of.spec 𝓤 H A at-mem run) → FitsIn reading-value before → FitsIn going-value going → (before .taken ≤ going .reading .taken)
       → Gives 𝓤 H A (𝓣 .C #fed-of) ([]) (reading-value .val before ∷ going-value .val going ∷ [])
       (FitsIn fed-value (fedOf before going)) (λ _. fed-value .val (fedOf before going)) (λ _. [])
   fed-of-by before going known f0 f1 need0 =
@@ -116,7 +116,7 @@ module _ {M : Type 1} {𝓤 : URA M} {H : Heap 𝓤} {A : Atoms 𝓤} (W : Given
       (λ z. known ((tt, tt, tt, (before, (going, tt)), (reading-value .val before ∷ [], (going-value .val going ∷ [], tt))), tt))
       (λ x ws e. (e, refl))
 
-  pub end-checked-by : (file : List ℕ) (checked : Checked) (r : Reading) (top : Level) → Meets 𝓤 H A end-checked.signature (𝓣 .C #end-checked) (end-checked.spec 𝓤 H A at-mem run) → {b o n : ℕ} (l : ShrLoan 𝓤 H A u8 b o n file) → FitsIn checked-value checked → FitsIn reading-value r → FitsIn level-value top → ((rule : Rule) → checked ≡ answered.Fine rule → RuleOf file rule × (r .state < rule .states)) 
+  pub end-checked-by : (file : List ℕ) (checked : Checked) (r : Reading) (top : Level) → Meets 𝓤 H A end-checked.signature (𝓣 .C #end-checked) (end-checked.spec 𝓤 H A at-mem run) → {b o n : ℕ} (l : ShrLoan 𝓤 H A u8 b o n file) → FitsIn checked-value checked → FitsIn reading-value r → FitsIn level-value top → ((rule : Rule) → checked ≡ answered.Fine rule → RuleOf file rule × (r .state < rule .states))
       → Gives 𝓤 H A (𝓣 .C #end-checked) (l .before ∷ []) (sliceVal (b, o) n ∷ checked-value .val checked ∷ reading-value .val r ∷ level-value .val top ∷ [])
       (Said (end-value .row) (end-value .val) (λ x. endSays x ≡ (checkedSays checked giving λ rule. endOf (ruleOf file) r top))) (λ x. end-value .val (x .answer)) (λ _. l .before ∷ [])
   end-checked-by file checked r top known {b} {o} {n} l f1 f2 f3 need0 =
@@ -124,7 +124,7 @@ module _ {M : Type 1} {𝓤 : URA M} {H : Heap 𝓤} {A : Atoms 𝓤} (W : Given
       (λ z. known (((l .lifetime (z .0), tt), (l .share (z .0), tt), tt, (at-list u8 (l .name (z .0)) b o file, (checked, (r, (top, tt)))), (sliceVal (b, o) n ∷ [], (checked-value .val checked ∷ [], (reading-value .val r ∷ [], (level-value .val top ∷ [], tt))))), tt))
       (λ x ws e. (e, refl))
 
-  pub make-rule-by : (file : List ℕ) (book : List ℕ) → Meets 𝓤 H A make-rule.signature (𝓣 .C #make-rule) (make-rule.spec 𝓤 H A at-mem run) → {b₀ o₀ n₀ b₁ o₁ n₁ : ℕ} (l₀ : ShrLoan 𝓤 H A u8 b₀ o₀ n₀ file) (l₁ : MutLoan 𝓤 H A u64 b₁ o₁ n₁ book) 
+  pub make-rule-by : (file : List ℕ) (book : List ℕ) → Meets 𝓤 H A make-rule.signature (𝓣 .C #make-rule) (make-rule.spec 𝓤 H A at-mem run) → {b₀ o₀ n₀ b₁ o₁ n₁ : ℕ} (l₀ : ShrLoan 𝓤 H A u8 b₀ o₀ n₀ file) (l₁ : MutLoan 𝓤 H A u64 b₁ o₁ n₁ book)
       → Gives 𝓤 H A (𝓣 .C #make-rule) (l₀ .before ∷ l₁ .before ∷ []) (sliceVal (b₀, o₀) n₀ ∷ sliceVal (b₁, o₁) n₁ ∷ [])
       (Said (checked-value .row) (checked-value .val) (λ x. MadeRule file book x (bookAfter (makeBook file book) (ruleOf file) book))) (λ x. checked-value .val (x .answer)) (λ _. l₀ .before ∷ l₁ .after (bookAfter (makeBook file book) (ruleOf file) book) ∷ [])
   make-rule-by file book known {b₀} {o₀} {n₀} {b₁} {o₁} {n₁} l₀ l₁ =
@@ -132,7 +132,7 @@ module _ {M : Type 1} {𝓤 : URA M} {H : Heap 𝓤} {A : Atoms 𝓤} (W : Given
       (λ z. known (((l₀ .lifetime (z .0), (l₁ .lifetime (z .1 .0), tt)), (l₀ .share (z .0), (l₁ .share (z .1 .0), tt)), tt, (at-list u8 (l₀ .name (z .0)) b₀ o₀ file, (at-list u64 (l₁ .name (z .1 .0)) b₁ o₁ book, tt)), (sliceVal (b₀, o₀) n₀ ∷ [], (sliceVal (b₁, o₁) n₁ ∷ [], tt))), tt))
       (λ x ws e. (subst (MadeRule file book x) (e .bookIs) e, ap (λ (zs : List ℕ). (tt, (zs, tt))) (e .bookIs)))
 
-  pub fresh-reading-by : (rule : Rule) → Meets 𝓤 H A fresh-reading.signature (𝓣 .C #fresh-reading) (fresh-reading.spec 𝓤 H A at-mem run) → FitsIn rule-value rule 
+  pub fresh-reading-by : (rule : Rule) → Meets 𝓤 H A fresh-reading.signature (𝓣 .C #fresh-reading) (fresh-reading.spec 𝓤 H A at-mem run) → FitsIn rule-value rule
       → Gives 𝓤 H A (𝓣 .C #fresh-reading) ([]) (rule-value .val rule ∷ [])
       (Said (reading-value .row) (reading-value .val) (λ x. (file : List ℕ) → RuleOf file rule → x ≡ freshReading (ruleOf file))) (λ x. reading-value .val (x .answer)) (λ _. [])
   fresh-reading-by rule known f0 =
@@ -140,7 +140,7 @@ module _ {M : Type 1} {𝓤 : URA M} {H : Heap 𝓤} {A : Atoms 𝓤} (W : Given
       (λ z. known ((tt, tt, tt, (rule, tt), (rule-value .val rule ∷ [], tt)), tt))
       (λ x ws e. (e, refl))
 
-  pub end-fed-by : (file : List ℕ) (rule : Rule) (going : Going) (top : Level) → Meets 𝓤 H A end-fed.signature (𝓣 .C #end-fed) (end-fed.spec 𝓤 H A at-mem run) → {b o n : ℕ} (l : ShrLoan 𝓤 H A u8 b o n file) → FitsIn rule-value rule → FitsIn going-value going → FitsIn level-value top → (going .ended ≡ feeding.AllTaken → RuleOf file rule × (going .reading .state < rule .states)) 
+  pub end-fed-by : (file : List ℕ) (rule : Rule) (going : Going) (top : Level) → Meets 𝓤 H A end-fed.signature (𝓣 .C #end-fed) (end-fed.spec 𝓤 H A at-mem run) → {b o n : ℕ} (l : ShrLoan 𝓤 H A u8 b o n file) → FitsIn rule-value rule → FitsIn going-value going → FitsIn level-value top → (going .ended ≡ feeding.AllTaken → RuleOf file rule × (going .reading .state < rule .states))
       → Gives 𝓤 H A (𝓣 .C #end-fed) (l .before ∷ []) (sliceVal (b, o) n ∷ rule-value .val rule ∷ going-value .val going ∷ level-value .val top ∷ [])
       (Said (end-value .row) (end-value .val) (λ x. endSays x ≡ (feedingSays (going .ended) giving λ done. endOf (ruleOf file) (going .reading) top))) (λ x. end-value .val (x .answer)) (λ _. l .before ∷ [])
   end-fed-by file rule going top known {b} {o} {n} l f1 f2 f3 need0 =
@@ -148,7 +148,7 @@ module _ {M : Type 1} {𝓤 : URA M} {H : Heap 𝓤} {A : Atoms 𝓤} (W : Given
       (λ z. known (((l .lifetime (z .0), tt), (l .share (z .0), tt), tt, (at-list u8 (l .name (z .0)) b o file, (rule, (going, (top, tt)))), (sliceVal (b, o) n ∷ [], (rule-value .val rule ∷ [], (going-value .val going ∷ [], (level-value .val top ∷ [], tt))))), tt))
       (λ x ws e. (e, refl))
 
-  pub feed-by : (file : List ℕ) (book : List ℕ) (ceiling : ℕ) (r : Reading) (levels : List Level) (events : List ℕ) → Meets 𝓤 H A feed.signature (𝓣 .C #feed) (feed.spec 𝓤 H A at-mem run) → {b₀ o₀ n₀ b₁ o₁ n₁ b₂ o₂ n₂ b₃ o₃ n₃ : ℕ} (l₀ : ShrLoan 𝓤 H A u8 b₀ o₀ n₀ file) (l₁ : ShrLoan 𝓤 H A u64 b₁ o₁ n₁ book) (l₂ : MutLoan 𝓤 H A record-type b₂ o₂ n₂ levels) (l₃ : ShrLoan 𝓤 H A u16 b₃ o₃ n₃ events) → ceiling < 2 ^ 32 → FitsIn reading-value r 
+  pub feed-by : (file : List ℕ) (book : List ℕ) (ceiling : ℕ) (r : Reading) (levels : List Level) (events : List ℕ) → Meets 𝓤 H A feed.signature (𝓣 .C #feed) (feed.spec 𝓤 H A at-mem run) → {b₀ o₀ n₀ b₁ o₁ n₁ b₂ o₂ n₂ b₃ o₃ n₃ : ℕ} (l₀ : ShrLoan 𝓤 H A u8 b₀ o₀ n₀ file) (l₁ : ShrLoan 𝓤 H A u64 b₁ o₁ n₁ book) (l₂ : MutLoan 𝓤 H A record-type b₂ o₂ n₂ levels) (l₃ : ShrLoan 𝓤 H A u16 b₃ o₃ n₃ events) → ceiling < 2 ^ 32 → FitsIn reading-value r
       → Gives 𝓤 H A (𝓣 .C #feed) (l₀ .before ∷ l₁ .before ∷ l₂ .before ∷ l₃ .before ∷ []) (sliceVal (b₀, o₀) n₀ ∷ sliceVal (b₁, o₁) n₁ ∷ vint w32 ceiling ∷ reading-value .val r ∷ sliceVal (b₂, o₂) n₂ ∷ sliceVal (b₃, o₃) n₃ ∷ [])
       (Said (fed-value .row) (fed-value .val) (λ x. FedIs (feedCall file book ceiling r levels events) r x (feedCall file book ceiling r levels events .last .store))) (λ x. fed-value .val (x .answer)) (λ _. l₀ .before ∷ l₁ .before ∷ l₂ .after (feedCall file book ceiling r levels events .last .store) ∷ l₃ .before ∷ [])
   feed-by file book ceiling r levels events known {b₀} {o₀} {n₀} {b₁} {o₁} {n₁} {b₂} {o₂} {n₂} {b₃} {o₃} {n₃} l₀ l₁ l₂ l₃ f2 f3 =
@@ -156,7 +156,7 @@ module _ {M : Type 1} {𝓤 : URA M} {H : Heap 𝓤} {A : Atoms 𝓤} (W : Given
       (λ z. known (((l₀ .lifetime (z .0), (l₁ .lifetime (z .1 .0), (l₂ .lifetime (z .1 .1 .0), (l₃ .lifetime (z .1 .1 .1 .0), tt)))), (l₀ .share (z .0), (l₁ .share (z .1 .0), (l₂ .share (z .1 .1 .0), (l₃ .share (z .1 .1 .1 .0), tt)))), tt, (at-list u8 (l₀ .name (z .0)) b₀ o₀ file, (at-list u64 (l₁ .name (z .1 .0)) b₁ o₁ book, (ceiling, (r, (at-list record-type (l₂ .name (z .1 .1 .0)) b₂ o₂ levels, (at-list u16 (l₃ .name (z .1 .1 .1 .0)) b₃ o₃ events, tt)))))), (sliceVal (b₀, o₀) n₀ ∷ [], (sliceVal (b₁, o₁) n₁ ∷ [], (vint w32 ceiling ∷ [], (reading-value .val r ∷ [], (sliceVal (b₂, o₂) n₂ ∷ [], (sliceVal (b₃, o₃) n₃ ∷ [], tt))))))), tt))
       (λ x ws e. (subst (FedIs (feedCall file book ceiling r levels events) r x) (e .storeIs) e, ap (λ (zs : List Level). (tt, (tt, (tt, (tt, (zs, (tt, tt))))))) (e .storeIs)))
 
-  pub finish-by : (file : List ℕ) (book : List ℕ) (r : Reading) (levels : List Level) → Meets 𝓤 H A finish.signature (𝓣 .C #finish) (finish.spec 𝓤 H A at-mem run) → {b₀ o₀ n₀ b₁ o₁ n₁ b₂ o₂ n₂ : ℕ} (l₀ : ShrLoan 𝓤 H A u8 b₀ o₀ n₀ file) (l₁ : ShrLoan 𝓤 H A u64 b₁ o₁ n₁ book) (l₂ : ShrLoan 𝓤 H A record-type b₂ o₂ n₂ levels) → FitsIn reading-value r 
+  pub finish-by : (file : List ℕ) (book : List ℕ) (r : Reading) (levels : List Level) → Meets 𝓤 H A finish.signature (𝓣 .C #finish) (finish.spec 𝓤 H A at-mem run) → {b₀ o₀ n₀ b₁ o₁ n₁ b₂ o₂ n₂ : ℕ} (l₀ : ShrLoan 𝓤 H A u8 b₀ o₀ n₀ file) (l₁ : ShrLoan 𝓤 H A u64 b₁ o₁ n₁ book) (l₂ : ShrLoan 𝓤 H A record-type b₂ o₂ n₂ levels) → FitsIn reading-value r
       → Gives 𝓤 H A (𝓣 .C #finish) (l₀ .before ∷ l₁ .before ∷ l₂ .before ∷ []) (sliceVal (b₀, o₀) n₀ ∷ sliceVal (b₁, o₁) n₁ ∷ reading-value .val r ∷ sliceVal (b₂, o₂) n₂ ∷ [])
       (Said (end-value .row) (end-value .val) (λ x. endSays x ≡ finishCall file book r levels)) (λ x. end-value .val (x .answer)) (λ _. l₀ .before ∷ l₁ .before ∷ l₂ .before ∷ [])
   finish-by file book r levels known {b₀} {o₀} {n₀} {b₁} {o₁} {n₁} {b₂} {o₂} {n₂} l₀ l₁ l₂ f2 =

@@ -42,16 +42,7 @@ fn take_event(
     requires { ⌜ Ready (now file) rule (now book) reading top ⌝ ∗ ⌜ next < length (now events) ⌝ }
     ensures { λ r. ⌜ ((store : List Level) → Feeds (now (file .entry)) rule (now (book .entry)) reading store → topOf reading store ≡ top → length store ≡ room → Advances (now (file .entry)) rule (now (book .entry)) ceiling store reading (now (events .entry)) next r) ⌝ }
 {
-    let turn = skip_event(
-        file,
-        rule,
-        book,
-        room,
-        ceiling,
-        reading,
-        top,
-        events[next],
-    );
+    let turn = skip_event(file, rule, book, room, ceiling, reading, top, events[next]);
     match turn {
         Turn::Stays(after) => Advance {
             going: Going {

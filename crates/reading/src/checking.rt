@@ -87,14 +87,7 @@ fn skips_unsettled(book: &[u64], reading: Reading, top: Level) -> bool
 
 // Number 13: whether what was handed in is not a reading of a rule with so many states, from what was seen of the level
 // store: its length, whether the stored states are states, and the innermost record.
-fn not_reading(
-    n: u8,
-    book: &[u64],
-    reading: Reading,
-    room: usize,
-    inside: bool,
-    top: Level,
-) -> bool
+fn not_reading(n: u8, book: &[u64], reading: Reading, room: usize, inside: bool, top: Level) -> bool
     requires { ⌜ n ≤ 64 ⌝ ∗ ⌜ n < length (now book) ⌝ ∗ ⌜ ((store : List Level) × Seen n reading store room inside top) ⌝ }
     ensures { λ r. ⌜ ((R : format.Rule) (store : List Level) → R .states ≡ n → Seen n reading store room inside top → r ≡ notReading R (now (book .entry)) reading store) ⌝ }
 {

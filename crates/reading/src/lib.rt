@@ -138,12 +138,7 @@ pub fn finish_array(file: &[u8], book: &[u64], reading: Reading, levels: [Level;
 }
 
 // A whole document: the rule check, the maker, feed and finish in turn, with the largest ceiling.
-pub fn read_document(
-    file: &[u8],
-    book: &mut [u64],
-    levels: &mut [Level],
-    events: &[u16],
-) -> End
+pub fn read_document(file: &[u8], book: &mut [u64], levels: &mut [Level], events: &[u16]) -> End
     ensures { λ r. ⌜ ReadIs (wholeDocument (now (file .entry)) (now (book .entry)) (now (levels .entry)) (now (events .entry))) r (now (book .exit)) (now (levels .exit)) ⌝ }
 {
     let checked = make_rule(file, &mut *book);
