@@ -1,9 +1,9 @@
 -- An array of structs as a field of another struct: there each element stands as the tuple of its fields. Its machine value is
 -- that of the array, and its elements fit where the array's do.
-use mathlib.Core.Path.{_≡_, refl, sym, _∙_, ap}
+use mathlib.Core.Path.{_≡_, refl, _∙_, ap}
 use Prim.Native.Nat.{ℕ}
 use mathlib.Core.List.{List, [], _∷_, map}
-use lib.ListN.{length, length-map}
+use lib.ListN.{length-map}
 use mir.Val.{Val}
 use denote.RattleType.{Denots}
 use denote.Laws.{Is}

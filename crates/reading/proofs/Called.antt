@@ -22,8 +22,6 @@ use Rattle.meaning.specs.RuleFile.{ruleOf}
 use Rattle.meaning.specs.FullReading.{Went, freshReading}
 use Rattle.meaning.specs.SkipBook.{makeBook, bookAfter}
 use Rattle.meaning.specs.Calls.{Stored, endSays, feedingSays, endOf, feedCall, finishCall}
-use Rattle.meaning.specs.declared.End.{End}
-use Rattle.meaning.specs.declared.Fed.{Fed}
 use Rattle.meaning.specs.declared.Feeding.the-variants as feeding
 use Rattle.meaning.specs.declared.Level.{Level}
 use Rattle.meaning.specs.declared.Reading.{Reading}

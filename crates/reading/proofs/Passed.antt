@@ -40,7 +40,6 @@ use Rattle.reading.specs.Turns.{Ready}
 use Rattle.reading.specs.Feeding.{Feeds}
 use Rattle.reading.specs.Advancing.{Advances}
 use Rattle.reading.specs.declared.Advance.{Advance}
-use Rattle.reading.specs.declared.Going.{Going}
 use Rattle.reading.proofs.Going as Go
 use Rattle.reading.proofs.Going.Laws as Go′
 use Rattle.reading.proofs.Advance as Ad
@@ -49,7 +48,7 @@ use Rattle.levels.proofs.Values.{Valued, FitsIn, passed, of-struct, of-enum}
 use Rattle.levels.proofs.Element.{record-type}
 use Rattle.levels.proofs.InPlace.{Gives}
 use Rattle.levels.proofs.Passing.{Said, lent, number, flag, replies-one, replies-with, two-facts}
-use Rattle.levels.proofs.Loans.{at-list, MutLoan, as-mut, ShrLoan, as-shr}
+use Rattle.levels.proofs.Loans.{at-list, ShrLoan, as-shr}
 use Rattle.rule.proofs.Rule.of_file as of-file
 use Rattle.rule.proofs.Rule.of_file.Symbol.{name as #of-file}
 use Rattle.reading.proofs.checking.rule_in as rule-in

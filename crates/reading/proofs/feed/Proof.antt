@@ -17,7 +17,7 @@ use contract.Lifetimes.{Lfts, Shares}
 use contract.Monad.{Fun}
 use contract.Running.{givenOf, tables, tablesOf}
 use types.Kit.{Given, Item, ‵, ⋆, _$_, _∵_, !, qed, by, suffices}
-use types.Run.{look, no-more, and-then, of-opd, from, returns}
+use types.Run.{look, no-more, and-then, of-opd, returns}
 use denote.RattleType.{RattleType}
 use denote.Laws.{Is, all-typed}
 use denote.Plain.{uint-vals, uint-tells, uint-lawful}

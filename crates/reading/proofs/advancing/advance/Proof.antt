@@ -1,6 +1,5 @@
 -- `reading::advancing::advance` meets its contract: what is passed over and then one event, or nothing where no event is left.
 -- Assumes nothing.
-use mathlib.Core.Path.{sym}
 use native.Mathlib.Omega.{arith}
 use lib.Seq.{set-out}
 use Rattle.reading.proofs.Turned.{book-serves, few-letters}

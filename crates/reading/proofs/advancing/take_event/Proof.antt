@@ -18,9 +18,6 @@ use Rattle.reading.proofs.OneTurn.{takes, refuses}
 use borrow.Author.Needs.{needs}
 use Rattle.reading.proofs.advancing.take_event.Statement.{statement}
 use Rattle.reading.proofs.advancing.take_event.Tie as tie
-use Rattle.reading.proofs.advancing.take_event.Reads as reads
-use Rattle.reading.proofs.advancing.take_event.Lts as lts
-use Rattle.reading.proofs.turns.skip_event.Reads as skip-event-reads
 
 -- what the event comes to, from its turn
 stepped : (c : tie.After-skip-event) → let a = c .before .before .before .before .before .args in

@@ -1,6 +1,6 @@
 -- `reading::document::make_rule` meets its contract: what the maker refused, or the rule check again.
 -- Assumes nothing.
-use mathlib.Core.Path.{_≡_, sym, _∙_}
+use mathlib.Core.Path.{_∙_}
 use Rattle.meaning.specs.Calls.{refusalSays}
 use Rattle.meaning.proofs.OneAnswer.{refusal-says}
 use Rattle.book.specs.Says.{madeSays}

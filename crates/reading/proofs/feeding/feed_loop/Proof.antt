@@ -1,8 +1,8 @@
 -- `reading::feeding::feed_loop` meets its contract. The code is walked by hand: before each turn feeding stands at some g over
 -- some store, and what is left to come of it is what was to come (`OneTurn.antt`, `Underway`).
 -- Assumes nothing.
-use mathlib.Core.Path.{_≡_, refl, sym, _∙_, ap, subst}
-use Prim.Native.Nat.{ℕ, _-_, _<_, _≤_, _^_}
+use mathlib.Core.Path.{refl}
+use Prim.Native.Nat.{ℕ, _-_, _<_, _^_}
 use native.Mathlib.Omega.{arith}
 use mathlib.Core.WellFounded.{WellFounded, InvImage·wf}
 use mathlib.Core.List.{List, [], _∷_, _++_}
@@ -38,7 +38,6 @@ use denote.Triple.Table.{cited}
 use denote.Triple.Walked.{says, Stays, stay-slice, stay-dropped, goes-slice, goes-dropped, walkOf, ends-at}
 use denote.Exit.{yes}
 use Rattle.meaning.specs.declared.Level.{Level}
-use Rattle.meaning.specs.declared.Reading.{Reading}
 use Rattle.meaning.specs.FullReading.{blank}
 use Rattle.meaning.specs.Calls.{topOf}
 use Rattle.meaning.specs.RuleFile.{ruleOf}
