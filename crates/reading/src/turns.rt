@@ -73,11 +73,11 @@ fn passed(reading: Reading, state: u8, depth: u32, skip: u32) -> Reading
 fn look_refused(ceiling: u32, reading: Reading, byte: u8, number: u8) -> u8
     ensures { λ r. ⌜ r ≡ lookNumber ceiling reading byte number ⌝ }
 {
-    if ceiling <= reading.looks {
-        return 9;
-    }
     if byte == Rule::NONE {
         return number;
+    }
+    if ceiling <= reading.looks {
+        return 9;
     }
     0
 }
