@@ -12,8 +12,7 @@ use lib.ListN.{length, getD, take, drop, length-append, length-take, length-drop
 use lib.Seq.{take-suc, take-add, take-length, length-take-le, drop-drop, getD-drop}
 use Rattle.meaning.specs.Answers.{_=?_, _≤?_, if_then_else_}
 use Rattle.meaning.proofs.Answered.{if-true, if-false}
-use Rattle.reading.specs.PassingOver.{openings, closings, unknowns, total, CountsOf, Passing, passNone, passOne, oneMore, joined, DepthsOf, PassedIn}
-use Rattle.reading.specs.declared.passing.Counts.{Counts}
+use Rattle.reading.specs.PassingOver.{openings, closings, unknowns, total, Passing, passNone, passOne, oneMore, joined, DepthsOf, PassedIn}
 use Rattle.reading.specs.declared.passing.Depths.{Depths}
 
 -- ---- one event: one or none
@@ -82,46 +81,20 @@ module _ (f : ℕ → ℕ) where
   total-append [] ys = omega arith
   total-append (x ∷ xs) ys = omega (arith, total-append xs ys)
 
-  total-more : (events : List ℕ) (i : ℕ) → i < length events → total f (take (i + 1) events) ≡ total f (take i events) + f (getD events i 0)
+  pub total-more : (events : List ℕ) (i : ℕ) → i < length events → total f (take (i + 1) events) ≡ total f (take i events) + f (getD events i 0)
   unfolding total
   total-more events i h = rw (add-one i, take-suc events i 0 h) (total-append (take i events) (getD events i 0 ∷ []) ∙ omega arith)
+
+  pub total-all : (events : List ℕ) (i : ℕ) → i ≡ length events → total f (take i events) ≡ total f events
+  total-all events i e = rw (e, take-length)
 
   pub total-few : ((e : ℕ) → f e ≤ 1) → (events : List ℕ) → total f events ≤ length events
   unfolding total
   total-few few [] = omega arith
   total-few few (e ∷ es) = omega (arith, few e, total-few few es)
 
-  total-within : ((e : ℕ) → f e ≤ 1) → (events : List ℕ) (i : ℕ) → i ≤ length events → total f (take i events) ≤ i
+  pub total-within : ((e : ℕ) → f e ≤ 1) → (events : List ℕ) (i : ℕ) → i ≤ length events → total f (take i events) ≤ i
   total-within few events i h = omega (arith, total-few few (take i events), length-take-le i events h)
-
-module _ (known : ℕ) (events : List ℕ) where
-  pub counts-none : CountsOf known (take 0 events) (record { opens = 0; closes = 0; unknown = 0 })
-  unfolding total
-  counts-none = record { opensAre = refl; closesAre = refl; unknownAre = refl }
-
-  pub counts-more : (i : ℕ) (n : Counts) → i < length events → CountsOf known (take i events) n
-      → CountsOf known (take (i + 1) events) (record {
-        opens = n .opens + openings (getD events i 0);
-        closes = n .closes + closings (getD events i 0);
-        unknown = n .unknown + unknowns known (getD events i 0);
-      })
-  counts-more i n h c =
-      record {
-        opensAre = omega (arith, total-more openings events i h, c .opensAre);
-        closesAre = omega (arith, total-more closings events i h, c .closesAre);
-        unknownAre = omega (arith, total-more (unknowns known) events i h, c .unknownAre);
-      }
-
-  pub counts-few : (i : ℕ) (n : Counts) → i ≤ length events → CountsOf known (take i events) n
-      → (n .opens ≤ i) × (n .closes ≤ i) × (n .unknown ≤ i)
-  counts-few i n h c = (
-    omega (arith, total-within openings opens-few events i h, c .opensAre),
-    omega (arith, total-within closings closes-few events i h, c .closesAre),
-    omega (arith, total-within (unknowns known) (unknown-few known) events i h, c .unknownAre),
-  )
-
-  pub counts-all : (i : ℕ) (n : Counts) → i ≡ length events → CountsOf known (take i events) n → CountsOf known events n
-  counts-all i n e c = rw (e, take-length) at c
 
 -- the events of a run that has no unknown one
 pub known-cons : (known e : ℕ) (es : List ℕ) → total (unknowns known) (e ∷ es) ≡ 0 → (e < known) × (total (unknowns known) es ≡ 0)
@@ -164,9 +137,9 @@ outlasted (e ∷ es) skip h =
     rw n (passOne {skip = skip} {e = e} (omega arith) rest)
 
 -- all of a run was passed over
-pub passed-whole : (known skip skip′ : ℕ) (events : List ℕ) → total (unknowns known) events ≡ 0 → Passing skip events skip′
-    → PassedIn known skip events (record { count = length events; skip = skip′ })
-passed-whole known skip skip′ events is p =
+pub passed-whole : (known skip skip′ : ℕ) (shallow : Bool) (events : List ℕ) → total (unknowns known) events ≡ 0 → Passing skip events skip′
+    → PassedIn known skip events (record { count = length events; skip = skip′; shallow = shallow })
+passed-whole known skip skip′ shallow events is p =
     let whole = take-length events in
     record { within = omega arith; allKnown = rw whole is; passing = rw whole p }
 

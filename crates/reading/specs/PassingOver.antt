@@ -33,10 +33,9 @@ unfoldable pub total : (ℕ → ℕ) → List ℕ → ℕ
 total f [] = 0
 total f (e ∷ es) = f e + total f es
 
-pub record CountsOf (known : ℕ) (events : List ℕ) (r : Counts) : Type 0 where
+pub record CountsOf (events : List ℕ) (r : Counts) : Type 0 where
   pub opensAre : r .opens ≡ total openings events
   pub closesAre : r .closes ≡ total closings events
-  pub unknownAre : r .unknown ≡ total (unknowns known) events
 
 -- a run whose closes do not end the level, from one skip depth to another
 pub data Passing : ℕ → List ℕ → ℕ → Type 0 where

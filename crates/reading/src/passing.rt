@@ -13,21 +13,17 @@ ghost use lib.ListN.{length};
 ghost use Rattle.meaning.specs.FullReading.{mostEvents};
 ghost use Rattle.meaning.specs.Skipping.{settled};
 ghost use Rattle.reading.specs.Turns.{BookServes, Counted};
-ghost use Rattle.reading.specs.PassingOver.{openings, closings, unknowns, CountsOf, oneMore, joined, DepthsOf, PassedIn, Ahead, passedOn, PassesOver};
+ghost use Rattle.reading.specs.PassingOver.{openings, closings, unknowns, total, CountsOf, oneMore, joined, DepthsOf, PassedIn, Ahead, passedOn, PassesOver};
 
 // How many events are looked at together, and how many are looked at one by one before that: a short part is over by then.
 const BLOCK: usize = 256;
 
 const FIRST: usize = 128;
 
-// A block is followed in four parts of this length.
-const PART: usize = 64;
-
-// How many events of a run open a tree, close one, and are unknown.
+// How many events of a run open a tree, and how many close one.
 struct Counts {
     pub opens: u16,
     pub closes: u16,
-    pub unknown: u16,
 }
 
 // The lowest and the last skip depth of a run that was begun at some depth.
@@ -36,10 +32,11 @@ struct Depths {
     pub last: u16,
 }
 
-// How many events were passed over, and the skip depth after them.
+// How many events were passed over, the skip depth after them, and whether that is too low for counts to be enough.
 struct Passed {
     pub count: usize,
     pub skip: u32,
+    pub shallow: bool,
 }
 
 // How many trees an event opens.
@@ -63,27 +60,35 @@ fn unknowns(known: u16, event: u16) -> u16
     if known <= event { 1 } else { 0 }
 }
 
-// Counting has no branch on an event, so that it is done for many events at a time.
-fn count(known: u16, block: &[u16]) -> Counts
+// How many events of a block are unknown. Counting has no branch on an event, so that it is done for many at a time.
+fn count_unknown(known: u16, block: &[u16]) -> u16
     requires { ⌜ length (now block) ≤ 256 ⌝ }
-    ensures { λ r. ⌜ CountsOf known (now (block .entry)) r ⌝ }
+    ensures { λ r. ⌜ r ≡ total (unknowns known) (now (block .entry)) ⌝ }
+{
+    let mut count: u16 = 0;
+    let mut i = 0;
+    while i < block.len() {
+        count += unknowns(known, block[i]);
+        i += 1;
+    }
+    count
+}
+
+// The opens and the closes of a block.
+fn count_trees(block: &[u16]) -> Counts
+    requires { ⌜ length (now block) ≤ 256 ⌝ }
+    ensures { λ r. ⌜ CountsOf (now (block .entry)) r ⌝ }
 {
     let mut opens: u16 = 0;
     let mut closes: u16 = 0;
-    let mut unknown: u16 = 0;
     let mut i = 0;
     while i < block.len() {
         let event = block[i];
         opens += openings(event);
         closes += closings(event);
-        unknown += unknowns(known, event);
         i += 1;
     }
-    Counts {
-        opens,
-        closes,
-        unknown,
-    }
+    Counts { opens, closes }
 }
 
 // The lesser of two numbers.
@@ -129,7 +134,7 @@ fn block_depths(block: &[u16]) -> Depths
     let mut c = a;
     let mut d = a;
     let mut i = 0;
-    while i < PART {
+    while i < 64 {
         a = one_more(a, block[i]);
         b = one_more(b, block[64 + i]);
         c = one_more(c, block[128 + i]);
@@ -152,6 +157,7 @@ fn pass_events(known: u16, depth: u32, block: &[u16]) -> Passed
             return Passed {
                 count: i,
                 skip: last,
+                shallow: false,
             };
         }
         // The open is counted first, so that no branch hangs on which event it is.
@@ -161,6 +167,7 @@ fn pass_events(known: u16, depth: u32, block: &[u16]) -> Passed
             return Passed {
                 count: i,
                 skip: last,
+                shallow: false,
             };
         }
         last = skip - closed;
@@ -169,33 +176,48 @@ fn pass_events(known: u16, depth: u32, block: &[u16]) -> Passed
     Passed {
         count: i,
         skip: last,
+        shallow: false,
     }
 }
 
-// A block is taken at once where no close of it ends the level: where its closes are no more than the skip depth, and where
-// its lowest depth is not below zero.
-fn pass_block(known: u16, skip: u32, block: &[u16]) -> Passed
+// A block of known events is taken at once where no close of it ends the level: where its closes are no more than the skip
+// depth, or else where its lowest depth is not below zero.
+fn pass_known(known: u16, skip: u32, shallow: bool, block: &[u16]) -> Passed
+    requires { ⌜ skip + length (now block) ≤ mostEvents ⌝ ∗ ⌜ length (now block) ≡ 256 ⌝ ∗ ⌜ total (unknowns known) (now block) ≡ 0 ⌝ }
+    ensures { λ r. ⌜ PassedIn known skip (now (block .entry)) r ⌝ }
+{
+    if !shallow {
+        let counts = count_trees(block);
+        let closes = counts.closes as u32;
+        if closes <= skip {
+            return Passed {
+                count: block.len(),
+                skip: skip + counts.opens as u32 - closes,
+                shallow,
+            };
+        }
+    }
+    let run = block_depths(block);
+    let needed = 256 - run.lowest as u32;
+    if needed <= skip {
+        let last = skip - needed + (run.last - run.lowest) as u32;
+        return Passed {
+            count: block.len(),
+            skip: last,
+            shallow: last < 256,
+        };
+    }
+    pass_events(known, skip, block)
+}
+
+// A whole block of known events is looked at together, and others one by one.
+fn pass_block(known: u16, skip: u32, shallow: bool, block: &[u16]) -> Passed
     requires { ⌜ skip + length (now block) ≤ mostEvents ⌝ }
     ensures { λ r. ⌜ PassedIn known skip (now (block .entry)) r ⌝ }
 {
     if block.len() == BLOCK {
-        let counts = count(known, block);
-        if counts.unknown == 0 {
-            let closes = counts.closes as u32;
-            if closes <= skip {
-                return Passed {
-                    count: block.len(),
-                    skip: skip + counts.opens as u32 - closes,
-                };
-            }
-            let depths = block_depths(block);
-            let needed = 256 - depths.lowest as u32;
-            if needed <= skip {
-                return Passed {
-                    count: block.len(),
-                    skip: skip - needed + (depths.last - depths.lowest) as u32,
-                };
-            }
+        if count_unknown(known, block) == 0 {
+            return pass_known(known, skip, shallow, block);
         }
     }
     pass_events(known, skip, block)
@@ -248,9 +270,11 @@ fn pass_over(letters: u16, reading: Reading, events: &[u16], from: usize) -> Pas
     let mut skip = reading.skip;
     let mut i = from;
     let mut stop = ahead(i, FIRST, end);
+    let mut shallow = false;
     while i < end {
-        let passed = pass_block(known, skip, &events[i..stop]);
+        let passed = pass_block(known, skip, shallow, &events[i..stop]);
         skip = passed.skip;
+        shallow = passed.shallow;
         i += passed.count;
         if i < stop {
             return left_at(reading, skip, from, i);
