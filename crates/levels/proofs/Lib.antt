@@ -9,3 +9,5 @@ pub mod Loop
 pub mod ArrayLoans
 pub mod Lines
 pub mod Parameters
+pub mod Values
+pub mod ArrayFields

@@ -4,7 +4,7 @@
 --     relent   a `&mut [R]` is lent again as a `&mut [R]`, for a lifetime made for the call. It comes back at the callee's last list
 --     reshown  a `&mut [R]` is lent again as a `&[R]`, likewise. It comes back as it was
 --     shown    a `&[R]` is passed on: the callee has a copy
-use mathlib.Core.Path.{_≡_, refl, sym, _∙_, ap, subst}
+use mathlib.Core.Path.{refl, sym, _∙_, ap, subst}
 use Prim.Native.Nat.{ℕ}
 use mathlib.Core.List.{List, [], _∷_}
 use lib.ListN.{length}

@@ -7,22 +7,27 @@ use Prim.Native.Nat.{ℕ, _+_, _≤_, _<_}
 use native.Mathlib.Omega.{arith}
 use borrow.Author.Tests.{lt-ltb, le-ltb}
 use lib.ListN.{length}
-use Rattle.meaning.specs.Answers.{given, refused}
+use Rattle.meaning.specs.Answers.{given, refused, _giving_}
+use Rattle.meaning.specs.FullReading.{Went}
 use Rattle.meaning.specs.RuleFile.{checkRule, ruleOf}
-use Rattle.meaning.specs.Calls.{refusalSays, notReading, readingCheck}
+use Rattle.meaning.specs.Calls.{Stored, refusalSays, topOf, notReading, readingCheck, feedCall, endOf, finishCall}
 use Rattle.meaning.specs.declared.Level.{Level}
 use Rattle.meaning.specs.declared.Reading.{Reading}
 use Rattle.meaning.specs.declared.Refusal.{Refusal}
 use Rattle.meaning.proofs.Accepted.{accepted-rule}
 use Rattle.meaning.proofs.Answered.{refuse-stops, refuse-passes, giving-given, giving-passes, giving-stops}
-use Rattle.meaning.proofs.ReadingCheck.{check-says, check-passes}
+use Rattle.meaning.proofs.ReadingCheck.{check-says, check-passes, feed-checked, feed-unchecked, finish-checked, finish-unchecked}
 use Rattle.rule.specs.Says.{numbersOf, checkedSays, checkAnswer}
 use Rattle.rule.specs.declared.Rule.{Rule}
+use Rattle.rule.specs.declared.Checked.{Checked}
 use Rattle.rule.specs.declared.Checked.the-variants as checked
 use Rattle.rule.proofs.Said.{fine-accepted, giving-refused}
 use Rattle.reading.specs.Turns.{RuleOf}
-use Rattle.reading.specs.Feeding.{Feeds}
-use Rattle.reading.specs.Checks.{readingAnswer}
+use Rattle.reading.specs.Feeding.{Feeds, FedIs, fedOf}
+use Rattle.reading.specs.Advancing.{rest, restOf, startOf, Goes, Gone}
+use Rattle.reading.specs.declared.Going.{Going}
+use Rattle.reading.specs.Checks.{ruleIn, readingAnswer}
+use Rattle.reading.proofs.Steps.{turn-ready}
 use Rattle.reading.proofs.Turned.{states-are}
 
 -- ---- the rule
@@ -94,3 +99,53 @@ module _ (file book : List ℕ) (r : Reading) (store : List Level) where
       → readingCheck file book r store ≡ refused (f .number) (f .place)
   unfolding checkedSays readingAnswer refusalSays
   refused-reads f e = giving-refused (readingCheck file book r store) _ _ _ (λ R. (numbersOf R, refl)) (sym e)
+
+-- ---- what follows a check that passed, and one that was refused
+
+start-reading : (x : Checked) (r : Reading) (count : ℕ) → startOf x r count .reading ≡ r
+unfolding startOf
+start-reading (checked.Fine rule) r count = refl
+start-reading (checked.Refused f) r count = refl
+
+module _ (file book : List ℕ) (r : Reading) (store : List Level) where
+  -- feeding may begin
+  pub start-goes : (x : Checked) (events : List ℕ) → checkedSays x ≡ readingAnswer file book r store
+      → Goes file (ruleIn x) book store events (startOf x r (length events))
+  unfolding ruleIn startOf
+  start-goes (checked.Fine rule) events e =
+      record { within = omega arith; taken = λ _. refl; feeds = λ _. fine-feeds file book r store rule e }
+  start-goes (checked.Refused f) events e =
+      record { within = omega arith; taken = λ less. absurd (omega arith); feeds = λ less. absurd (omega arith) }
+
+  -- and what is left to come is what the call comes to
+  pub start-comes : (x : Checked) (ceiling : ℕ) (events : List ℕ) → checkedSays x ≡ readingAnswer file book r store
+      → rest (ruleOf file) book ceiling store events (startOf x r (length events)) ≡ feedCall file book ceiling r store events
+  unfolding startOf rest restOf refusalSays
+  start-comes (checked.Fine rule) ceiling events e = sym (feed-checked _ _ _ _ _ _ (fine-passes file book r store rule e))
+  start-comes (checked.Refused f) ceiling events e = sym (feed-unchecked _ _ _ _ _ _ (refused-reads file book r store f e))
+
+  pub start-gone : (x : Checked) (ceiling : ℕ) (events : List ℕ) → checkedSays x ≡ readingAnswer file book r store → {room : ℕ} {g : Going} {store′ : List Level}
+      → Gone (rest (ruleOf file) book ceiling store events (startOf x r (length events))) (startOf x r (length events) .reading) room g store′
+      → Gone (feedCall file book ceiling r store events) r room g store′
+  start-gone x ceiling events e h =
+      let same : startOf x r (length events) .reading ≡ r = start-reading x r (length events) in
+      rw (start-comes x ceiling events e, same) at h
+
+  -- the reading may be ended
+  pub finish-needs : (x : Checked) → checkedSays x ≡ readingAnswer file book r store → (rule : Rule) → x ≡ checked.Fine rule
+      → RuleOf file rule × (r .state < rule .states)
+  finish-needs x e rule same =
+      let h = fine-feeds file book r store rule (rw same at e) in
+      (h .ruled, turn-ready h .states .stateIn)
+
+  pub finish-comes : (x : Checked) → checkedSays x ≡ readingAnswer file book r store
+      → (checkedSays x giving λ rule. endOf (ruleOf file) r (topOf r store)) ≡ finishCall file book r store
+  unfolding checkedSays _giving_ refusalSays
+  finish-comes (checked.Fine rule) e = sym (finish-checked _ _ _ _ (fine-passes file book r store rule e))
+  finish-comes (checked.Refused f) e = sym (finish-unchecked _ _ _ _ (refused-reads file book r store f e))
+
+-- what feeding answers, from where it ended
+pub fed-answer : {w : Went Stored} {before : Reading} {room : ℕ} {g : Going} {store : List Level} → Gone w before room g store
+    → FedIs w before (fedOf before g) store
+unfolding fedOf
+fed-answer h = record { readingIs = rw (h .comes); endedIs = rw (h .comes); takenIs = rw (h .comes); storeIs = rw (h .comes) }

@@ -1,8 +1,9 @@
 pub mod Turned
-pub mod Store
 pub mod Steps
-pub mod Going
+pub mod OneTurn
 pub mod Checks
 pub mod PassesOn
 pub mod WholeRead
 pub mod OneOutcome
+pub mod Passed
+pub mod Called

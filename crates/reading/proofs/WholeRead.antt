@@ -1,33 +1,37 @@
 -- The whole-document call: once the maker gave its count, a fresh reading with the made book passes every check of feed and
 -- finish, so feeding the events and taking the end of what was fed is what those calls answer in turn.
-use mathlib.Core.Path.{_≡_, refl, sym, _∙_}
+use mathlib.Core.Path.{_≡_, refl, sym, ap, _∙_}
 use mathlib.Core.List.{List}
 use Prim.Native.Nat.{ℕ, _<_}
 use native.Mathlib.Omega.{arith}
 use lib.ListN.{length}
-use Rattle.meaning.specs.Answers.{given, refused}
+use Rattle.meaning.specs.Answers.{Answer, given, refused, _giving_}
 use Rattle.meaning.specs.RuleFile.{checkRule, ruleOf}
 use Rattle.meaning.specs.FullReading.{Went, freshReading, feedBy}
 use Rattle.meaning.specs.SkipBook.{makeBook, bookAfter}
 use Rattle.meaning.specs.Calls.{Stored, refusalSays, feedingSays, endSays, storeStep, topOf, endOf, finishFed, largestCeiling, readWith, wholeDocument}
 use Rattle.meaning.specs.declared.End.{End}
-use Rattle.meaning.specs.declared.End.the-variants as end
-use Rattle.meaning.specs.declared.Fed.{Fed}
+use Rattle.meaning.specs.declared.Reading.{Reading}
 use Rattle.meaning.specs.declared.Feeding.the-variants as feeding
 use Rattle.meaning.specs.declared.Level.{Level}
 use Rattle.meaning.specs.declared.Refusal.{Refusal}
 use Rattle.meaning.proofs.Accepted.{accepted-is-rule}
-use Rattle.meaning.proofs.Answered.{giving-passes, giving-stops}
+use Rattle.meaning.proofs.Answered.{giving-stops}
 use Rattle.meaning.proofs.StillReading.{reading-is, fed-reading}
-use Rattle.meaning.proofs.StoreView.{store-is-levels}
 use Rattle.meaning.proofs.Whole.{fresh-reading, madeBook, made-says, made-length, whole-refused, whole-made, whole-feeds, whole-finishes}
 use Rattle.rule.specs.declared.Rule.{Rule}
+use Rattle.rule.specs.declared.Checked.{Checked}
+use Rattle.rule.specs.declared.Checked.the-variants as checked
+use Rattle.rule.specs.Says.{checkedSays, checkAnswer}
+use Rattle.rule.proofs.Said.{refused-check}
 use Rattle.reading.specs.Turns.{RuleOf}
-use Rattle.reading.specs.Store.{storeOf, Holds}
-use Rattle.reading.specs.Feeding.{Feeds, over, FedIs}
-use Rattle.reading.specs.Whole.{endFed, ReadIs}
-use Rattle.reading.proofs.Store.{holds-same, holds-store}
-use Rattle.reading.proofs.Steps.{reading-in}
+use Rattle.reading.specs.Feeding.{Feeds, over}
+use Rattle.reading.specs.Whole.{endFed, ReadIs, MadeRule}
+use Rattle.reading.specs.Checks.{ruleIn}
+use Rattle.reading.specs.Advancing.{rest, restOf, startOf, Goes, Gone}
+use Rattle.reading.specs.declared.Going.{Going}
+use Rattle.reading.proofs.Steps.{turn-ready}
+use Rattle.reading.proofs.Checks.{ruled-by}
 use Rattle.reading.proofs.Turned.{states-are}
 
 -- what feeding a fresh reading with the largest ceiling comes to
@@ -43,37 +47,6 @@ module _ {file : List ℕ} {rule : Rule} (h : RuleOf file rule) (book : List ℕ
         bookLong = long;
         isReading = reading-is (ruleOf file) book _ store (fresh-reading file book store (h .accepted));
       }
-
-  module _ (states places events : List ℕ) {fed : Fed} {states′ places′ : List ℕ}
-      (f : FedIs (readAll file book (storeOf states places) events) (freshReading (ruleOf file)) fed states places states′ places′) where
-    abbrev went : Went Stored
-    went = readAll file book (storeOf states places) events
-
-    read-store : storeOf states′ places′ ≡ went .last .store
-    read-store =
-        holds-store (f .holds)
-        (store-is-levels (ruleOf file) book largestCeiling _ (storeOf states places) events (reading-in (fresh-feeds (storeOf states places)) .within) .stored)
-
-    -- what was fed is still a reading
-    pub fed-feeds : Feeds file rule book (fed .reading) (storeOf states′ places′)
-    fed-feeds =
-        record {
-          ruled = h;
-          bookLong = long;
-          isReading = rw (f .readingIs, read-store)
-              (fed-reading (accepted-is-rule file (h .accepted)) book largestCeiling _ events (fresh-feeds (storeOf states places) .isReading));
-        }
-
-    -- an event was refused
-    pub end-refused : (r : Refusal) → fed .ended ≡ feeding.Refused r → endSays (end.Refused r) ≡ endFed (ruleOf file) went
-    unfolding endSays endFed feedingSays refusalSays
-    end-refused r e = sym (giving-stops _ (sym (f .endedIs) ∙ rw e))
-
-    -- all events were taken
-    pub end-taken : fed .ended ≡ feeding.AllTaken
-        → endOf (ruleOf file) (fed .reading) (topOf (fed .reading) (storeOf states′ places′)) ≡ endFed (ruleOf file) went
-    unfolding endFed feedingSays
-    end-taken e = rw (f .readingIs, read-store) (sym (giving-passes _ (sym (f .endedIs) ∙ rw e)))
 
 -- ---- after the maker
 
@@ -103,23 +76,76 @@ module _ (file book : List ℕ) where
       let accepted = made-says file book made .accepted in
       let z : _≡_ {A = ℕ} 0 1 = cc in absurd (omega arith)
 
--- ---- what the call answers and leaves
+-- ---- how the call goes on after the maker: with its refusal, or with the rule of which it made the book
 
-module _ (file book states places events : List ℕ) where
-  -- the maker refused
-  pub read-refused : (r : Refusal) {book′ : List ℕ} → makeBook file book ≡ refusalSays r → book′ ≡ madeBook file book
-      → ReadIs (wholeDocument file book (storeOf states places) events) (end.Refused r) book′ states places states places
-  unfolding endSays refusalSays bookAfter
-  read-refused r e same =
-      let stays : madeBook file book ≡ book = rw (e, bookAfter) in
-      rw (whole-refused file book (storeOf states places) events e)
-      (record { answerIs = refl; bookIs = same ∙ stays; holds = holds-same states places })
+module _ (file book : List ℕ) where
+  pub data Begins : Checked → Type 0 where
+    refuses : (f : Refusal) → makeBook file book ≡ refusalSays f → Begins (checked.Refused f)
+    begins : (count : ℕ) (rule : Rule) → makeBook file book ≡ given count → RuleOf file rule → Begins (checked.Fine rule)
 
-  -- the maker gave its count, and the events were read with its book
-  pub read-made : {count : ℕ} {r : End} {book′ states′ places′ : List ℕ} → makeBook file book ≡ given count → book′ ≡ madeBook file book
-      → endSays r ≡ endFed (ruleOf file) (readAll file book′ (storeOf states places) events)
-      → Holds (readAll file book′ (storeOf states places) events .last .store) states places states′ places′
-      → ReadIs (wholeDocument file book (storeOf states places) events) r book′ states places states′ places′
-  read-made made same ends holds =
-      rw (whole-read file book (storeOf states places) events made)
-      (record { answerIs = rw (← same) ends; bookIs = same; holds = rw (← same) holds })
+  pub begun-by : (x : Checked) {book′ : List ℕ} → MadeRule file book x book′ → Begins x
+  unfolding refusalSays
+  begun-by x h = go (makeBook file book) refl x (h .whenRefused) (h .whenMade)
+    where
+      go : (y : Answer ℕ) → makeBook file book ≡ y → (x : Checked) → ((f : Refusal) → makeBook file book ≡ refusalSays f → x ≡ checked.Refused f)
+          → ((count : ℕ) → makeBook file book ≡ given count → checkedSays x ≡ checkAnswer file) → Begins x
+      go (refused number place) e x whenRefused whenMade =
+          let f : Refusal = record { number = number; place = place } in
+          rw (whenRefused f e) (refuses f e)
+      go (given count) e (checked.Fine rule) whenRefused whenMade = begins count rule e (ruled-by file rule (whenMade count e))
+      go (given count) e (checked.Refused f) whenRefused whenMade = made-accepted file book e (refused-check file f (whenMade count e))
+
+  -- the book keeps its length
+  pub book-stays : {x : Checked} → Begins x → length (madeBook file book) ≡ length book
+  unfolding bookAfter refusalSays
+  book-stays (refuses f e) = rw (e, bookAfter)
+  book-stays (begins count rule e h) = made-length file book e
+
+  module _ {book′ : List ℕ} (same : book′ ≡ madeBook file book) (first : Reading) (store : List Level) (events : List ℕ) where
+    -- feeding may begin
+    pub document-goes : {x : Checked} → Begins x → ((file : List ℕ) → RuleOf file (ruleIn x) → first ≡ freshReading (ruleOf file))
+        → Goes file (ruleIn x) book′ store events (startOf x first (length events))
+    unfolding ruleIn startOf
+    document-goes (refuses f e) fresh =
+        record { within = omega arith; taken = λ less. absurd (omega arith); feeds = λ less. absurd (omega arith) }
+    document-goes (begins count rule e h) fresh =
+        record {
+          within = omega arith;
+          taken = λ _. refl;
+          feeds = λ _. rw (fresh file h) (fresh-feeds h book′ (made-rule file book e same h) store);
+        }
+
+    module _ (g : Going) {room : ℕ} {store′ : List Level} where
+      -- where it has come to its end, the reading may be ended
+      pub document-needs : {x : Checked} → Begins x → ((file : List ℕ) → RuleOf file (ruleIn x) → first ≡ freshReading (ruleOf file))
+          → Gone (rest (ruleOf file) book′ largestCeiling store events (startOf x first (length events))) (startOf x first (length events) .reading) room g store′
+          → g .ended ≡ feeding.AllTaken → RuleOf file (ruleIn x) × (g .reading .state < ruleIn x .states)
+      unfolding ruleIn startOf rest restOf feedingSays refusalSays
+      document-needs (refuses f e) fresh gone all =
+          let came : refusalSays f ≡ feedingSays (g .ended) = ap (λ (w : Went Stored). w .ended) (gone .comes) in
+          let z : _≡_ {A = ℕ} 0 1 = cc (rw (all, feedingSays) at came) in
+          absurd (omega arith)
+      document-needs (begins count rule e h) fresh gone all =
+          let long = made-rule file book e same h in
+          let came : readAll file book′ store events ≡ record { last = over (g .reading) store′; ended = feedingSays (g .ended) } = rw (fresh file h) at (gone .comes) in
+          let still = rw came at (fed-reading (accepted-is-rule file (h .accepted)) book′ largestCeiling (over (freshReading (ruleOf file)) store) events (fresh-feeds h book′ long store .isReading)) in
+          (h, turn-ready (record { ruled = h; bookLong = long; isReading = still }) .states .stateIn)
+
+      -- and the answer of its end is the call's
+      pub document-comes : {x : Checked} {r : End} → Begins x → ((file : List ℕ) → RuleOf file (ruleIn x) → first ≡ freshReading (ruleOf file))
+          → Gone (rest (ruleOf file) book′ largestCeiling store events (startOf x first (length events))) (startOf x first (length events) .reading) room g store′
+          → endSays r ≡ (feedingSays (g .ended) giving λ done. endOf (ruleOf file) (g .reading) (topOf (g .reading) store′))
+          → ReadIs (wholeDocument file book store events) r book′ store′
+      unfolding ruleIn startOf rest restOf refusalSays bookAfter endFed
+      document-comes (refuses f e) fresh gone ends =
+          let stays : madeBook file book ≡ book = rw (e, bookAfter) in
+          rw (whole-refused file book store events e)
+          (record {
+            answerIs = ends ∙ giving-stops _ (sym (ap (λ (w : Went Stored). w .ended) (gone .comes)));
+            bookIs = same ∙ stays;
+            storeIs = sym (ap (λ (w : Went Stored). w .last .store) (gone .comes));
+          })
+      document-comes (begins count rule e h) fresh gone ends =
+          let came : readAll file (madeBook file book) store events ≡ record { last = over (g .reading) store′; ended = feedingSays (g .ended) } = rw (fresh file h, same) at (gone .comes) in
+          rw (whole-read file book store events e)
+          (record { answerIs = rw came ends; bookIs = same; storeIs = rw came })

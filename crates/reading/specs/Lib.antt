@@ -1,6 +1,6 @@
 pub mod Turns
-pub mod Store
 pub mod Feeding
 pub mod Checks
 pub mod PassingOver
 pub mod Whole
+pub mod Advancing

@@ -1,9 +1,9 @@
 // What feed and finish check first: the rule, the length of the book, and that the reading is one.
-use crate::levels::level_at;
-use crate::levels::room;
-use crate::levels::top_level;
+use crate::advancing::top_place;
 use crate::settling::is_held;
 use crate::settling::is_settled;
+use levels::level_at;
+use levels::room;
 use meaning::Level;
 use meaning::Reading;
 use meaning::Refusal;
@@ -11,31 +11,66 @@ use rule::Checked;
 use rule::Rule;
 ghost use mathlib.Core.Path.{_≡_};
 ghost use mathlib.Core.Bool.{not, _&&_};
-ghost use Prim.Native.Nat.{_≤_, _<_};
+ghost use mathlib.Core.List.{List};
+ghost use Prim.Native.Nat.{ℕ, _≤_, _<_};
 ghost use lib.ListN.{length};
 ghost use Rattle.meaning.specs.Answers.{_<?_};
 ghost use Rattle.meaning.specs.RuleFile as format;
+ghost use Rattle.meaning.specs.RuleFile.{isState};
 ghost use Rattle.meaning.specs.Skipping.{settled};
 ghost use Rattle.meaning.specs.Calls.{notReading};
-ghost use Rattle.rule.specs.Says.{checkedSays};
+ghost use Rattle.rule.specs.Says.{checkedSays, checkAnswer};
 ghost use Rattle.reading.specs.Turns.{BookServes};
-ghost use Rattle.reading.specs.Store.{storeOf};
-ghost use Rattle.reading.specs.Checks.{abovesIn, readingAnswer};
+ghost use Rattle.reading.specs.Checks.{abovesIn, ruleIn, Seen, readingAnswer};
+
+// The rule that a check gave, or four zeros.
+pub fn rule_in(checked: Checked) -> Rule
+    ensures { λ r. ⌜ r ≡ ruleIn checked ⌝ }
+{
+    match checked {
+        Checked::Fine(rule) => rule,
+        Checked::Refused(_) => Rule {
+            states: 0,
+            initial: 0,
+            tree_start: 0,
+            letters: 0,
+        },
+    }
+}
+
+// Whether a stored state is below n, and those before it are.
+pub fn still_in(inside: bool, level: Level, states: u8) -> bool
+    ensures { λ r. ⌜ r ≡ (inside && isState states (level .above)) ⌝ }
+{
+    if inside {
+        return level.above < states;
+    }
+    false
+}
 
 // Whether the stored states below the depth are all below n.
-fn aboves_in(states: &[u8], places: &[u32], depth: u32, n: u8) -> bool
-    requires { ⌜ depth ≤ length (storeOf (now states) (now places)) ⌝ }
-    ensures { λ r. ⌜ r ≡ abovesIn n depth (storeOf (now (states .entry)) (now (places .entry))) ⌝ }
+pub fn stored_in(levels: &[Level], depth: usize, states: u8) -> bool
+    ensures { λ r. ⌜ r ≡ abovesIn states depth (now (levels .entry)) ⌝ }
 {
-    let mut i: u32 = 0;
+    let mut inside = true;
+    let mut i = 0;
     while i < depth {
-        let level = level_at(states, places, i as usize);
-        if n <= level.above {
-            return false;
-        }
+        let level = level_at(levels, i);
+        inside = still_in(inside, level, states);
         i += 1;
     }
-    true
+    inside
+}
+
+// The stored depth, if the level store is that long.
+pub fn depth_within(reading: Reading, room: usize) -> usize
+    ensures { λ r. ⌜ (reading .depth ≤ room → r ≡ reading .depth) ⌝ }
+{
+    let depth = reading.depth as usize;
+    if room < depth {
+        return 0;
+    }
+    depth
 }
 
 // Whether the skip depth is above zero on a level that is not settled.
@@ -50,21 +85,22 @@ fn skips_unsettled(book: &[u64], reading: Reading, top: Level) -> bool
     !is_settled(book, reading, held)
 }
 
-// Number 13: whether what was handed in is not a reading of a rule with so many states.
-fn not_reading(n: u8, book: &[u64], reading: Reading, states: &[u8], places: &[u32]) -> bool
-    requires { ⌜ n ≤ 64 ⌝ ∗ ⌜ n < length (now book) ⌝ }
-    ensures { λ r. ⌜ ((R : format.Rule) → R .states ≡ n → r ≡ notReading R (now (book .entry)) reading (storeOf (now (states .entry)) (now (places .entry)))) ⌝ }
+// Number 13: whether what was handed in is not a reading of a rule with so many states, from what was seen of the level
+// store: its length, whether the stored states are states, and the innermost record.
+fn not_reading(n: u8, book: &[u64], reading: Reading, room: usize, inside: bool, top: Level) -> bool
+    requires { ⌜ n ≤ 64 ⌝ ∗ ⌜ n < length (now book) ⌝ ∗ ⌜ ((store : List Level) × Seen n reading store room inside top) ⌝ }
+    ensures { λ r. ⌜ ((R : format.Rule) (store : List Level) → R .states ≡ n → Seen n reading store room inside top → r ≡ notReading R (now (book .entry)) reading store) ⌝ }
 {
     if n <= reading.state {
         return true;
     }
-    if room(states, places) < reading.depth as usize {
+    if room < reading.depth as usize {
         return true;
     }
-    if !aboves_in(states, places, reading.depth, n) {
+    if !inside {
         return true;
     }
-    if skips_unsettled(book, reading, top_level(states, places, reading)) {
+    if skips_unsettled(book, reading, top) {
         return true;
     }
     if (reading.taken as u64) < reading.depth as u64 + reading.skip as u64 {
@@ -74,16 +110,18 @@ fn not_reading(n: u8, book: &[u64], reading: Reading, states: &[u8], places: &[u
 }
 
 // The rule, 6, 13.
-pub fn reading_check(
-    file: &[u8],
+pub fn reading_answer(
+    checked: Checked,
     book: &[u64],
     reading: Reading,
-    states: &[u8],
-    places: &[u32],
+    room: usize,
+    inside: bool,
+    top: Level,
 ) -> Checked
-    ensures { λ r. ⌜ checkedSays r ≡ readingAnswer (now (file .entry)) (now (book .entry)) reading (storeOf (now (states .entry)) (now (places .entry))) ⌝ }
+    requires { ⌜ ((file : List ℕ) × (checkedSays checked ≡ checkAnswer file)) ⌝ ∗ ⌜ ((store : List Level) × Seen (ruleIn checked .states) reading store room inside top) ⌝ }
+    ensures { λ r. ⌜ ((file : List ℕ) (store : List Level) → checkedSays checked ≡ checkAnswer file → Seen (ruleIn checked .states) reading store room inside top → checkedSays r ≡ readingAnswer file (now (book .entry)) reading store) ⌝ }
 {
-    match Rule::of_file(file) {
+    match checked {
         Checked::Refused(refusal) => Checked::Refused(refusal),
         Checked::Fine(rule) => {
             if book.len() < rule.states as usize + 1 {
@@ -92,7 +130,7 @@ pub fn reading_check(
                     place: 0,
                 });
             }
-            if not_reading(rule.states, book, reading, states, places) {
+            if not_reading(rule.states, book, reading, room, inside, top) {
                 return Checked::Refused(Refusal {
                     number: 13,
                     place: 0,
@@ -101,4 +139,18 @@ pub fn reading_check(
             Checked::Fine(rule)
         }
     }
+}
+
+// What feed and finish check first, over the level store.
+pub fn admit(file: &[u8], book: &[u64], reading: Reading, levels: &[Level]) -> Checked
+    ensures { λ r. ⌜ checkedSays r ≡ readingAnswer (now (file .entry)) (now (book .entry)) reading (now (levels .entry)) ⌝ }
+{
+    let checked = Rule::of_file(file);
+    let rule = rule_in(checked);
+    let count = room(levels);
+    let depth = depth_within(reading, count);
+    let inside = stored_in(levels, depth, rule.states);
+    let place = top_place(reading);
+    let top = level_at(levels, place);
+    reading_answer(checked, book, reading, count, inside, top)
 }

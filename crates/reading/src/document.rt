@@ -1,25 +1,19 @@
-// Reading a whole document: the events after the rule check and the maker.
-use crate::ending::end_of;
-use crate::feeding::feed_events;
-use crate::levels::top_level;
-use meaning::End;
-use meaning::Feeding;
+// Reading a whole document: what the rule check and the maker lead to.
+use book::Made;
+use book::make_book;
 use meaning::Reading;
+use rule::Checked;
 use rule::Rule;
 ghost use mathlib.Core.Path.{_≡_};
 ghost use mathlib.Core.List.{List};
-ghost use Prim.Native.Nat.{ℕ, _<_};
-ghost use lib.ListN.{length};
+ghost use Prim.Native.Nat.{ℕ};
 ghost use Rattle.meaning.specs.RuleFile.{ruleOf};
-ghost use Rattle.meaning.specs.FullReading.{feedBy, freshReading};
-ghost use Rattle.meaning.specs.Calls.{endSays, storeStep, largestCeiling};
+ghost use Rattle.meaning.specs.FullReading.{freshReading};
 ghost use Rattle.reading.specs.Turns.{RuleOf};
-ghost use Rattle.reading.specs.Store.{storeOf, Holds};
-ghost use Rattle.reading.specs.Feeding.{over};
-ghost use Rattle.reading.specs.Whole.{endFed};
+ghost use Rattle.reading.specs.Whole.{MadeRule};
 
 // The largest ceiling.
-const LARGEST_CEILING: u32 = 4294967295;
+pub const LARGEST_CEILING: u32 = 4294967295;
 
 // The initial state and four zeros.
 pub fn fresh_reading(rule: Rule) -> Reading
@@ -34,37 +28,13 @@ pub fn fresh_reading(rule: Rule) -> Reading
     }
 }
 
-// A fresh reading is fed all events with the largest ceiling, and finished. A fresh reading and a book that is long enough
-// pass every check of feed and finish, so none is made here.
-pub fn read_events(
-    file: &[u8],
-    rule: Rule,
-    book: &[u64],
-    states: &mut [u8],
-    places: &mut [u32],
-    events: &[u16],
-) -> End
-    requires { ⌜ RuleOf (now file) rule ⌝ ∗ ⌜ rule .states < length (now book) ⌝ }
-    ensures { λ r. ⌜ endSays r ≡ endFed (ruleOf (now (file .entry))) (feedBy (storeStep (ruleOf (now (file .entry))) (now (book .entry)) largestCeiling) (over (freshReading (ruleOf (now (file .entry)))) (storeOf (now (states .entry)) (now (places .entry)))) (now (events .entry))) ⌝ }
-    ensures { λ r. ⌜ Holds (feedBy (storeStep (ruleOf (now (file .entry))) (now (book .entry)) largestCeiling) (over (freshReading (ruleOf (now (file .entry)))) (storeOf (now (states .entry)) (now (places .entry)))) (now (events .entry)) .last .store) (now (states .entry)) (now (places .entry)) (now (states .exit)) (now (places .exit)) ⌝ }
+// The maker, and then the rule of which it made the book, or what it refused. A fresh reading and that book pass every check
+// of feed and finish, so no other is made.
+pub fn make_rule(file: &[u8], book: &mut [u64]) -> Checked
+    ensures { λ r. ⌜ MadeRule (now (file .entry)) (now (book .entry)) r (now (book .exit)) ⌝ }
 {
-    let first = fresh_reading(rule);
-    let fed = feed_events(
-        file,
-        rule,
-        book,
-        LARGEST_CEILING,
-        first,
-        states,
-        places,
-        events,
-    );
-    let ended = fed.ended;
-    match ended {
-        Feeding::Refused(refusal) => End::Refused(refusal),
-        Feeding::AllTaken => {
-            let last = fed.reading;
-            end_of(file, rule, last, top_level(states, places, last))
-        }
+    match make_book(file, book) {
+        Made::Refused(refusal) => Checked::Refused(refusal),
+        Made::Still(_) => Rule::of_file(file),
     }
 }

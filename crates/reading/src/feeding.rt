@@ -1,98 +1,87 @@
-// Feeding over the level store: one event, and all of them.
-use crate::Step;
-use crate::Turn;
-use crate::levels::put_level;
-use crate::levels::room;
-use crate::levels::top_level;
-use crate::passing::pass_settled;
-use crate::turns::skip_event;
+// Feeding over the level store: where it begins, all events turn by turn, and what it answers.
+use crate::Going;
+use crate::advancing::advance;
+use crate::advancing::top_place;
+use levels::level_at;
+use levels::put_level;
+use levels::room;
 use meaning::Fed;
 use meaning::Feeding;
+use meaning::Level;
 use meaning::Reading;
-use meaning::Refusal;
+use rule::Checked;
 use rule::Rule;
+ghost use mathlib.Core.Path.{_≡_};
+ghost use Prim.Native.Nat.{_-_, _≤_};
+ghost use lib.ListN.{length};
 ghost use Rattle.meaning.specs.RuleFile.{ruleOf};
-ghost use Rattle.meaning.specs.FullReading.{feedBy};
-ghost use Rattle.meaning.specs.Calls.{storeStep};
-ghost use Rattle.reading.specs.Store.{storeOf};
-ghost use Rattle.reading.specs.Feeding.{Feeds, over, Stepped, FedIs};
+ghost use Rattle.reading.specs.Advancing.{rest, startOf, Goes, Gone};
+ghost use Rattle.reading.specs.Feeding.{fedOf};
 
-// One event: what its turn says becomes of the reading, and of the store.
-fn take_event(
-    file: &[u8],
-    rule: Rule,
-    book: &[u64],
-    ceiling: u32,
-    reading: Reading,
-    states: &mut [u8],
-    places: &mut [u32],
-    event: u16,
-) -> Step
-    requires { ⌜ Feeds (now file) rule (now book) reading (storeOf (now states) (now places)) ⌝ }
-    ensures { λ r. ⌜ Stepped (storeStep (ruleOf (now (file .entry))) (now (book .entry)) ceiling (over reading (storeOf (now (states .entry)) (now (places .entry)))) event) reading r (now (states .entry)) (now (places .entry)) (now (states .exit)) (now (places .exit)) ⌝ }
+// Where feeding begins: before the first event, or at the check's refusal with none left.
+pub fn started(checked: Checked, reading: Reading, count: usize) -> Going
+    ensures { λ r. ⌜ r ≡ startOf checked reading count ⌝ }
 {
-    let top = top_level(states, places, reading);
-    match skip_event(
-        file,
-        rule,
-        book,
-        room(states, places),
-        ceiling,
-        reading,
-        top,
-        event,
-    ) {
-        Turn::Stays(next) => Step::To(next),
-        Turn::Ends(next) => Step::To(next),
-        Turn::Refused(number) => Step::Refused(number),
-        Turn::Stores(level, next) => {
-            put_level(states, places, reading.depth as usize, level);
-            Step::To(next)
-        }
+    match checked {
+        Checked::Fine(_) => Going {
+            reading,
+            next: 0,
+            ended: Feeding::AllTaken,
+        },
+        Checked::Refused(refusal) => Going {
+            reading,
+            next: count,
+            ended: Feeding::Refused(refusal),
+        },
     }
 }
 
-// All events, one after the other, until one is refused. Where an event leads to a settled level, what can be passed over
-// there is taken at once.
-pub fn feed_events(
+// All events, turn by turn, until none is left. What a turn stores is laid in the level store, and what the next one reads is
+// read from it.
+pub fn feed_loop(
     file: &[u8],
     rule: Rule,
     book: &[u64],
     ceiling: u32,
-    reading: Reading,
-    states: &mut [u8],
-    places: &mut [u32],
+    going: Going,
+    levels: &mut [Level],
     events: &[u16],
-) -> Fed
-    requires { ⌜ Feeds (now file) rule (now book) reading (storeOf (now states) (now places)) ⌝ }
-    ensures { λ r. ⌜ FedIs (feedBy (storeStep (ruleOf (now (file .entry))) (now (book .entry)) ceiling) (over reading (storeOf (now (states .entry)) (now (places .entry)))) (now (events .entry))) reading r (now (states .entry)) (now (places .entry)) (now (states .exit)) (now (places .exit)) ⌝ }
+) -> Going
+    requires { ⌜ Goes (now file) rule (now book) (now levels) (now events) going ⌝ }
+    ensures { λ r. ⌜ Gone (rest (ruleOf (now (file .entry))) (now (book .entry)) ceiling (now (levels .entry)) (now (events .entry)) going) (going .reading) (length (now (levels .entry))) r (now (levels .exit)) ⌝ }
 {
-    let mut at = reading;
-    let mut i = 0;
-    while i < events.len() {
-        let event = events[i];
-        match take_event(file, rule, book, ceiling, at, states, places, event) {
-            Step::To(next) => {
-                let top = top_level(states, places, next);
-                let passed = pass_settled(rule.letters, book, next, top, events, i + 1);
-                at = passed.reading;
-                i = passed.next;
-            }
-            Step::Refused(number) => {
-                let taken = at.taken - reading.taken;
-                let place = at.taken as usize;
-                return Fed {
-                    taken,
-                    reading: at,
-                    ended: Feeding::Refused(Refusal { number, place }),
-                };
-            }
-        }
+    let count = room(&*levels);
+    let mut at = going;
+    while at.next < events.len() {
+        let place = top_place(at.reading);
+        let top = level_at(&*levels, place);
+        let turn = advance(
+            file,
+            rule,
+            book,
+            count,
+            ceiling,
+            at.reading,
+            top,
+            events,
+            at.next,
+        );
+        put_level(&mut *levels, turn.place, turn.level);
+        at = turn.going;
     }
-    let taken = at.taken - reading.taken;
+    at
+}
+
+// What feeding answers, from where it began and where it ended.
+pub fn fed_of(before: Reading, going: Going) -> Fed
+    requires { ⌜ before .taken ≤ going .reading .taken ⌝ }
+    ensures { λ r. ⌜ r ≡ fedOf before going ⌝ }
+{
+    let reading = going.reading;
+    let ended = going.ended;
     Fed {
-        taken,
-        reading: at,
-        ended: Feeding::AllTaken,
+        taken: reading.taken - before.taken,
+        reading,
+        ended,
     }
 }

@@ -1,21 +1,25 @@
 // The reading of events: what one event leads to, by value, and the calls over the lent level store.
+mod advancing;
 mod checking;
 mod document;
 mod ending;
 mod feeding;
-mod levels;
 mod passing;
 mod settling;
 mod turns;
 
-use book::Made;
-use book::make_book;
-use checking::reading_check;
+use advancing::top_place;
+use checking::admit;
+use checking::rule_in;
+use document::LARGEST_CEILING;
 use document::fresh_reading;
-use document::read_events;
-use ending::end_of;
-use feeding::feed_events;
-use levels::top_level;
+use document::make_rule;
+use ending::end_checked;
+use ending::end_fed;
+use feeding::fed_of;
+use feeding::feed_loop;
+use feeding::started;
+use levels::level_at;
 use meaning::End;
 use meaning::Fed;
 use meaning::Feeding;
@@ -26,7 +30,6 @@ use rule::Checked;
 use rule::Rule;
 ghost use mathlib.Core.Path.{_≡_};
 ghost use Rattle.meaning.specs.Calls.{endSays, feedCall, finishCall, freshCall, wholeDocument};
-ghost use Rattle.reading.specs.Store.{storeOf};
 ghost use Rattle.reading.specs.Feeding.{FedIs};
 ghost use Rattle.reading.specs.Checks.{begunSays};
 ghost use Rattle.reading.specs.Whole.{ReadIs};
@@ -41,22 +44,37 @@ enum Turn {
     Refused(u8),
 }
 
-// What becomes of an event that is handed to a reading over a level store: the next reading, or the number of a refusal.
-enum Step {
-    To(Reading),
-    Refused(u8),
-}
-
 // Where passing over a run of events was left: the reading there, and the index of the next event.
 struct PassedOver {
     pub reading: Reading,
     pub next: usize,
 }
 
+// Where feeding stands: the reading there, the index of the next event, and whether one was refused, as then none is left.
+struct Going {
+    pub reading: Reading,
+    pub next: usize,
+    pub ended: Feeding,
+}
+
+// What one turn leads to: where feeding stands then, and the record to store with its place. Nothing is stored past the
+// level store's length.
+struct Advance {
+    pub going: Going,
+    pub place: usize,
+    pub level: Level,
+}
+
 // What a fresh reading answers: the reading, or the refusal of the rule.
 pub enum Begun {
     At(Reading),
     Refused(Refusal),
+}
+
+// What feeding answers over levels of one's own: the answer, and the levels after it.
+pub struct FedArray {
+    pub fed: Fed,
+    pub levels: [Level; 1024],
 }
 
 // A fresh reading of a rule, given as the bytes of its file.
@@ -75,56 +93,69 @@ pub fn feed(
     book: &[u64],
     ceiling: u32,
     reading: Reading,
-    states: &mut [u8],
-    places: &mut [u32],
+    levels: &mut [Level],
     events: &[u16],
 ) -> Fed
-    ensures { λ r. ⌜ FedIs (feedCall (now (file .entry)) (now (book .entry)) ceiling reading (storeOf (now (states .entry)) (now (places .entry))) (now (events .entry))) reading r (now (states .entry)) (now (places .entry)) (now (states .exit)) (now (places .exit)) ⌝ }
+    ensures { λ r. ⌜ FedIs (feedCall (now (file .entry)) (now (book .entry)) ceiling reading (now (levels .entry)) (now (events .entry))) reading r (now (levels .exit)) ⌝ }
 {
-    match reading_check(file, book, reading, states, places) {
-        Checked::Fine(rule) => feed_events(
-            file,
-            rule,
-            book,
-            ceiling,
-            reading,
-            states,
-            places,
-            events,
-        ),
-        Checked::Refused(refusal) => Fed {
-            taken: 0,
-            reading,
-            ended: Feeding::Refused(refusal),
-        },
-    }
+    let checked = admit(file, book, reading, &*levels);
+    let rule = rule_in(checked);
+    let going = started(checked, reading, events.len());
+    let last = feed_loop(file, rule, book, ceiling, going, &mut *levels, events);
+    fed_of(reading, last)
 }
 
 // The end of a reading: the verdict of its state, or a refusal where a level or skip depth is open.
-pub fn finish(file: &[u8], book: &[u64], reading: Reading, states: &[u8], places: &[u32]) -> End
-    ensures { λ r. ⌜ endSays r ≡ finishCall (now (file .entry)) (now (book .entry)) reading (storeOf (now (states .entry)) (now (places .entry))) ⌝ }
+pub fn finish(file: &[u8], book: &[u64], reading: Reading, levels: &[Level]) -> End
+    ensures { λ r. ⌜ endSays r ≡ finishCall (now (file .entry)) (now (book .entry)) reading (now (levels .entry)) ⌝ }
 {
-    match reading_check(file, book, reading, states, places) {
-        Checked::Fine(rule) => end_of(file, rule, reading, top_level(states, places, reading)),
-        Checked::Refused(refusal) => End::Refused(refusal),
-    }
+    let checked = admit(file, book, reading, levels);
+    let place = top_place(reading);
+    let top = level_at(levels, place);
+    end_checked(file, checked, reading, top)
+}
+
+// Feed over levels of one's own, for a caller that holds them by value.
+pub fn feed_array(
+    file: &[u8],
+    book: &[u64],
+    ceiling: u32,
+    reading: Reading,
+    levels: [Level; 1024],
+    events: &[u16],
+) -> FedArray
+    ensures { λ r. ⌜ FedIs (feedCall (now (file .entry)) (now (book .entry)) ceiling reading levels (now (events .entry))) reading (r .fed) (r .levels) ⌝ }
+{
+    let mut store = levels;
+    let fed = feed(file, book, ceiling, reading, &mut store, events);
+    FedArray { fed, levels: store }
+}
+
+// Finish over levels of one's own.
+pub fn finish_array(file: &[u8], book: &[u64], reading: Reading, levels: [Level; 1024]) -> End
+    ensures { λ r. ⌜ endSays r ≡ finishCall (now (file .entry)) (now (book .entry)) reading levels ⌝ }
+{
+    finish(file, book, reading, &levels)
 }
 
 // A whole document: the rule check, the maker, feed and finish in turn, with the largest ceiling.
-pub fn read_document(
-    file: &[u8],
-    book: &mut [u64],
-    states: &mut [u8],
-    places: &mut [u32],
-    events: &[u16],
-) -> End
-    ensures { λ r. ⌜ ReadIs (wholeDocument (now (file .entry)) (now (book .entry)) (storeOf (now (states .entry)) (now (places .entry))) (now (events .entry))) r (now (book .exit)) (now (states .entry)) (now (places .entry)) (now (states .exit)) (now (places .exit)) ⌝ }
+pub fn read_document(file: &[u8], book: &mut [u64], levels: &mut [Level], events: &[u16]) -> End
+    ensures { λ r. ⌜ ReadIs (wholeDocument (now (file .entry)) (now (book .entry)) (now (levels .entry)) (now (events .entry))) r (now (book .exit)) (now (levels .exit)) ⌝ }
 {
-    match make_book(file, book) {
-        Made::Refused(refusal) => End::Refused(refusal),
-        Made::Still(_) => match Rule::of_file(file) {
-            Checked::Refused(refusal) => End::Refused(refusal),
-            Checked::Fine(rule) => read_events(file, rule, book, states, places, events),
-        },
-    }
+    let checked = make_rule(file, &mut *book);
+    let rule = rule_in(checked);
+    let first = fresh_reading(rule);
+    let going = started(checked, first, events.len());
+    let last = feed_loop(
+        file,
+        rule,
+        &*book,
+        LARGEST_CEILING,
+        going,
+        &mut *levels,
+        events,
+    );
+    let place = top_place(last.reading);
+    let top = level_at(&*levels, place);
+    end_fed(file, rule, last, top)
 }

@@ -1,35 +1,27 @@
-// One reading of the two, fed block by block over level stores of its own.
+// One reading of the two, fed block by block over a level store of its own.
 use meaning::End;
 use meaning::Feeding;
+use meaning::Level;
 use meaning::Reading;
 use reading::Begun;
 
 // The largest ceiling.
 const CEILING: u32 = 0xffff_ffff;
 
-// The levels of a reading.
-pub struct Levels {
-    pub states: [u8; 1024],
-    pub places: [u32; 1024],
-}
-
 // A reading so far: once an event is refused, no more is taken.
 pub struct Pass {
     pub reading: Reading,
     pub ended: Feeding,
-    pub levels: Levels,
-}
-
-fn no_levels() -> Levels {
-    Levels {
-        states: [0; 1024],
-        places: [0; 1024],
-    }
+    pub levels: [Level; 1024],
 }
 
 // Before the first event.
 pub fn begin(file: &[u8]) -> Pass {
-    let levels = no_levels();
+    let none = Level {
+        above: 0,
+        opened: 0,
+    };
+    let levels = [none; 1024];
     match reading::fresh(file) {
         Begun::At(reading) => Pass {
             reading,
@@ -54,49 +46,37 @@ fn take_events(
     file: &[u8],
     book: &[u64],
     reading: Reading,
-    levels: Levels,
+    levels: [Level; 1024],
     events: &[u16],
 ) -> Pass {
-    let mut states = levels.states;
-    let mut places = levels.places;
-    let fed = reading::feed(
-        file,
-        book,
-        CEILING,
-        reading,
-        &mut states,
-        &mut places,
-        events,
-    );
-    let after = fed.reading;
+    let after = reading::feed_array(file, book, CEILING, reading, levels, events);
+    let fed = after.fed;
+    let next = fed.reading;
     let ended = fed.ended;
+    let left = after.levels;
     Pass {
-        reading: after,
+        reading: next,
         ended,
-        levels: Levels { states, places },
+        levels: left,
     }
 }
 
 // More events.
 pub fn go_on(file: &[u8], book: &[u64], pass: Pass, events: &[u16]) -> Pass {
     let ended = pass.ended;
+    let levels = pass.levels;
     match ended {
         Feeding::Refused(_) => pass,
-        Feeding::AllTaken => take_events(file, book, pass.reading, pass.levels, events),
+        Feeding::AllTaken => take_events(file, book, pass.reading, levels, events),
     }
-}
-
-fn finish(file: &[u8], book: &[u64], reading: Reading, levels: Levels) -> End {
-    let states = levels.states;
-    let places = levels.places;
-    reading::finish(file, book, reading, &states, &places)
 }
 
 // After the last event.
 pub fn end_of(file: &[u8], book: &[u64], pass: Pass) -> End {
     let ended = pass.ended;
+    let levels = pass.levels;
     match ended {
         Feeding::Refused(refusal) => End::Refused(refusal),
-        Feeding::AllTaken => finish(file, book, pass.reading, pass.levels),
+        Feeding::AllTaken => reading::finish_array(file, book, pass.reading, levels),
     }
 }

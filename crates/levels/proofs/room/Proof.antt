@@ -1,5 +1,5 @@
 -- `room` meets its contract: the count stands in the slice reference itself, and nothing of the store is read.
-use mathlib.Core.Path.{_≡_, refl}
+use mathlib.Core.Path.{refl}
 use Prim.Native.Nat.{ℕ, _<_, _^_}
 use mathlib.Core.List.{List, [], _∷_}
 use mathlib.Core.Option.{some}

@@ -1,0 +1,17 @@
+-- `reading::feeding::fed_of` meets its contract.
+-- Assumes nothing.
+use mathlib.Core.Path.{refl}
+use Rattle.reading.specs.Feeding.{fedOf}
+use borrow.Author.Needs.{needs}
+use Rattle.reading.proofs.feeding.fed_of.Statement.{statement}
+use Rattle.reading.proofs.feeding.fed_of.Tie as tie
+
+sub-t5 : tie.Need-sub-t5
+sub-t5 c = search needs
+
+returns : tie.Need-returns
+unfolding fedOf
+returns c = refl
+
+pub fed-of-spec : {M : Type 1} → statement M
+fed-of-spec = tie.close (tie.spec sub-t5 returns)
