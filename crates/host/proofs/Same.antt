@@ -6,11 +6,14 @@ use mathlib.Core.List.{List}
 use Prim.Native.Nat.{ℕ}
 use Rattle.meaning.specs.Answers.{Answer}
 use Rattle.meaning.specs.FullReading.{Went}
-use Rattle.meaning.specs.Calls.{Stored, feedingSays}
+use Rattle.meaning.specs.Calls.{Stored, Whole, endSays, feedingSays}
+use Rattle.meaning.specs.declared.End.{End}
 use Rattle.meaning.specs.declared.Fed.{Fed}
+use Rattle.meaning.specs.declared.Level.{Level}
 use Rattle.meaning.specs.declared.Reading.{Reading}
 use Rattle.reading.specs.Feeding.{FedIs}
-use Rattle.host.specs.Numbers.{Laid, listed, fedNumbers, wentNumbers}
+use Rattle.reading.specs.Whole.{ReadIs}
+use Rattle.host.specs.Numbers.{Laid, listed, judgedValues, fedNumbers, wentNumbers, FeedLaid, DocumentLaid}
 
 pub laid-as : {numbers numbers′ held : List ℕ} {fitted : Bool} {held′ : List ℕ} → numbers ≡ numbers′
     → Laid numbers held fitted held′ → Laid numbers′ held fitted held′
@@ -20,7 +23,13 @@ pub laid-says : {A : Type 0} (values : A → List ℕ) {a b : Answer A} {held : 
     → Laid (listed values a) held fitted held′ → Laid (listed values b) held fitted held′
 laid-says values e laid = laid-as (ap (listed values) e) laid
 
-pub laid-fed : {w : Went Stored} {before : Reading} {r : Fed} {states places states′ places′ held : List ℕ} {fitted : Bool} {held′ : List ℕ}
-    → FedIs w before r states places states′ places′
-    → Laid (fedNumbers (feedingSays (r .ended)) (r .taken) (r .reading)) held fitted held′ → Laid (wentNumbers before w) held fitted held′
-laid-fed fed laid = rw (sym (fed .endedIs), sym (fed .takenIs), sym (fed .readingIs)) laid
+pub laid-fed : {w : Went Stored} {before : Reading} {r : Fed} {store : List Level} {held : List ℕ} {fitted : Bool} {held′ : List ℕ}
+    → FedIs w before r store
+    → Laid (fedNumbers (feedingSays (r .ended)) (r .taken) (r .reading)) held fitted held′ → FeedLaid w before held fitted store held′
+laid-fed fed laid =
+    record { laid = rw (sym (fed .endedIs), sym (fed .takenIs), sym (fed .readingIs)) laid; storeIs = fed .storeIs }
+
+pub laid-read : {w : Whole} {r : End} {book : List ℕ} {store : List Level} {held : List ℕ} {fitted : Bool} {held′ : List ℕ} → ReadIs w r book store
+    → Laid (listed judgedValues (endSays r)) held fitted held′ → DocumentLaid w held fitted book store held′
+laid-read read laid =
+    record { laid = laid-says judgedValues (read .answerIs) laid; bookIs = read .bookIs; storeIs = read .storeIs }

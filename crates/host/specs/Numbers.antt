@@ -7,7 +7,8 @@ use mathlib.Core.List.{List, [], _∷_, _++_}
 use lib.ListN.{length, drop}
 use Rattle.meaning.specs.Answers.{Answer, given, refused, _≤?_, if_then_else_}
 use Rattle.meaning.specs.FullReading.{Went}
-use Rattle.meaning.specs.Calls.{Judged, Stored}
+use Rattle.meaning.specs.Calls.{Judged, Stored, Whole}
+use Rattle.meaning.specs.declared.Level.{Level}
 use Rattle.meaning.specs.declared.Reading.{Reading}
 use Rattle.rule.specs.declared.Rule.{Rule}
 
@@ -60,3 +61,14 @@ wentNumbers before w = fedNumbers (w .ended) (w .last .reading .taken - before .
 abbrev pub readingFrom : ℕ → ℕ → ℕ → ℕ → ℕ → Reading
 readingFrom state depth skip taken looks =
     record { state = state; depth = depth; skip = skip; taken = taken; looks = looks }
+
+-- ---- what feeding and the whole-document call say of the lent answer and of what else was lent
+
+pub record FeedLaid (w : Went Stored) (before : Reading) (held : List ℕ) (fitted : Bool) (store : List Level) (held′ : List ℕ) : Type 0 where
+  pub laid : Laid (wentNumbers before w) held fitted held′
+  pub storeIs : store ≡ w .last .store
+
+pub record DocumentLaid (w : Whole) (held : List ℕ) (fitted : Bool) (book : List ℕ) (store : List Level) (held′ : List ℕ) : Type 0 where
+  pub laid : Laid (listed judgedValues (w .answer)) held fitted held′
+  pub bookIs : book ≡ w .book
+  pub storeIs : store ≡ w .store

@@ -11,6 +11,7 @@ use answers::lay_fed;
 use answers::lay_made;
 use answers::lay_written;
 use book::make_book;
+use meaning::Level;
 use meaning::Reading;
 use reading::feed;
 use reading::finish;
@@ -25,8 +26,7 @@ ghost use Rattle.meaning.specs.SkipBook.{makeBook, bookAfter};
 ghost use Rattle.meaning.specs.Calls.{freshCall, feedCall, finishCall, wholeDocument};
 ghost use Rattle.rule.specs.Says.{checkAnswer};
 ghost use Rattle.rule.specs.Checks.{ruleFrom};
-ghost use Rattle.reading.specs.Store.{storeOf, Holds};
-ghost use Rattle.host.specs.Numbers.{Laid, listed, ruleValues, countValue, readingValues, judgedValues, wentNumbers, readingFrom};
+ghost use Rattle.host.specs.Numbers.{Laid, listed, ruleValues, countValue, readingValues, judgedValues, readingFrom, FeedLaid, DocumentLaid};
 
 // The rule check: n, the initial state, the tree start and k.
 #[no_mangle]
@@ -82,8 +82,8 @@ pub extern "C" fn venticapro_fresh(file: &[u8], answer: &mut [u64]) -> bool
     lay_begun(fresh(file), answer)
 }
 
-// Feeding: the events it took and the reading after them, also where an event is refused. The level store is lent as two
-// slices: the states above the levels, and the places of their openings.
+// Feeding: the events it took and the reading after them, also where an event is refused. The level store is lent as records:
+// the state above the level, and the place of its opening.
 #[no_mangle]
 pub extern "C" fn venticapro_feed(
     file: &[u8],
@@ -94,13 +94,11 @@ pub extern "C" fn venticapro_feed(
     skip: u32,
     taken: u32,
     looks: u32,
-    states: &mut [u8],
-    places: &mut [u32],
+    levels: &mut [Level],
     events: &[u16],
     answer: &mut [u64],
 ) -> bool
-    ensures { λ r. ⌜ Laid (wentNumbers (readingFrom state depth skip taken looks) (feedCall (now (file .entry)) (now (book .entry)) ceiling (readingFrom state depth skip taken looks) (storeOf (now (states .entry)) (now (places .entry))) (now (events .entry)))) (now (answer .entry)) r (now (answer .exit)) ⌝ }
-    ensures { λ _. ⌜ Holds (feedCall (now (file .entry)) (now (book .entry)) ceiling (readingFrom state depth skip taken looks) (storeOf (now (states .entry)) (now (places .entry))) (now (events .entry)) .last .store) (now (states .entry)) (now (places .entry)) (now (states .exit)) (now (places .exit)) ⌝ }
+    ensures { λ r. ⌜ FeedLaid (feedCall (now (file .entry)) (now (book .entry)) ceiling (readingFrom state depth skip taken looks) (now (levels .entry)) (now (events .entry))) (readingFrom state depth skip taken looks) (now (answer .entry)) r (now (levels .exit)) (now (answer .exit)) ⌝ }
 {
     let reading = Reading {
         state,
@@ -109,10 +107,8 @@ pub extern "C" fn venticapro_feed(
         taken,
         looks,
     };
-    lay_fed(
-        feed(file, book, ceiling, reading, states, places, events),
-        answer,
-    )
+    let fed = feed(file, book, ceiling, reading, &mut *levels, events);
+    lay_fed(fed, answer)
 }
 
 // The end of a reading: the class of the verdict and the end state.
@@ -125,11 +121,10 @@ pub extern "C" fn venticapro_finish(
     skip: u32,
     taken: u32,
     looks: u32,
-    states: &[u8],
-    places: &[u32],
+    levels: &[Level],
     answer: &mut [u64],
 ) -> bool
-    ensures { λ r. ⌜ Laid (listed judgedValues (finishCall (now (file .entry)) (now (book .entry)) (readingFrom state depth skip taken looks) (storeOf (now (states .entry)) (now (places .entry))))) (now (answer .entry)) r (now (answer .exit)) ⌝ }
+    ensures { λ r. ⌜ Laid (listed judgedValues (finishCall (now (file .entry)) (now (book .entry)) (readingFrom state depth skip taken looks) (now (levels .entry)))) (now (answer .entry)) r (now (answer .exit)) ⌝ }
 {
     let reading = Reading {
         state,
@@ -138,7 +133,8 @@ pub extern "C" fn venticapro_finish(
         taken,
         looks,
     };
-    lay_end(finish(file, book, reading, states, places), answer)
+    let end = finish(file, book, reading, levels);
+    lay_end(end, answer)
 }
 
 // A whole document: the class of the verdict and the end state.
@@ -146,14 +142,12 @@ pub extern "C" fn venticapro_finish(
 pub extern "C" fn venticapro_read_document(
     file: &[u8],
     book: &mut [u64],
-    states: &mut [u8],
-    places: &mut [u32],
+    levels: &mut [Level],
     events: &[u16],
     answer: &mut [u64],
 ) -> bool
-    ensures { λ r. ⌜ Laid (listed judgedValues (wholeDocument (now (file .entry)) (now (book .entry)) (storeOf (now (states .entry)) (now (places .entry))) (now (events .entry)) .answer)) (now (answer .entry)) r (now (answer .exit)) ⌝ }
-    ensures { λ _. ⌜ now (book .exit) ≡ wholeDocument (now (file .entry)) (now (book .entry)) (storeOf (now (states .entry)) (now (places .entry))) (now (events .entry)) .book ⌝ }
-    ensures { λ _. ⌜ Holds (wholeDocument (now (file .entry)) (now (book .entry)) (storeOf (now (states .entry)) (now (places .entry))) (now (events .entry)) .store) (now (states .entry)) (now (places .entry)) (now (states .exit)) (now (places .exit)) ⌝ }
+    ensures { λ r. ⌜ DocumentLaid (wholeDocument (now (file .entry)) (now (book .entry)) (now (levels .entry)) (now (events .entry))) (now (answer .entry)) r (now (book .exit)) (now (levels .exit)) (now (answer .exit)) ⌝ }
 {
-    lay_end(read_document(file, book, states, places, events), answer)
+    let end = read_document(file, &mut *book, &mut *levels, events);
+    lay_end(end, answer)
 }

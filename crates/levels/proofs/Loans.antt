@@ -2,9 +2,10 @@
 --     Kept     what the holder of a `&mut [R]` has: the slice, owned at its list, with its lifetime's token
 --     Shown    what the holder of a `&[R]` has, likewise
 --     relent   a `&mut [R]` is lent again as a `&mut [R]`, for a lifetime made for the call. It comes back at the callee's last list
+--     recounted  the same, and that its count is as it was is learned (`InPlace.antt`'s `learns`)
 --     reshown  a `&mut [R]` is lent again as a `&[R]`, likewise. It comes back as it was
 --     shown    a `&[R]` is passed on: the callee has a copy
-use mathlib.Core.Path.{refl, sym, _∙_, ap, subst}
+use mathlib.Core.Path.{_≡_, refl, sym, _∙_, ap, subst}
 use Prim.Native.Nat.{ℕ}
 use mathlib.Core.List.{List, [], _∷_}
 use lib.ListN.{length}
@@ -16,7 +17,7 @@ use base.Fml.{Lft, GName, Share, Fml, ftrue, fsep, feq, flft, fobs, fauth, flent
 use base.Logic.{SProp, ent, sep, ex}
 use prog.Wp.{Heap}
 use ghost.Atoms.{Atoms, sem}
-use types.Kit.{Given, Item, ‵, _⊛_, some, mean, later, _$_, _∵_, !, qed, move, keep, drop, use1, use3, split, pick, rewrite, fsplit, fjoin, feqL, feqI, await, updating, now as at-once, show, frame, done}
+use types.Kit.{Given, Item, ‵, raw, _⊛_, some, given, mean, later, _$_, _∵_, !, qed, move, keep, drop, use1, use3, split, pick, rewrite, fsplit, fjoin, feqL, feqI, learn, check, await, updating, now as at-once, show, frame, done}
 use types.Tokens.{lft-new, lft-end, lent-back}
 use types.SemTy.{cells, Arr}
 use types.Share.{arr-parts}
@@ -140,13 +141,19 @@ module _ (R : RattleType) where
         at-once ! $ show ! PassedMut (α, γ₁) $ move ! (2 ∷ 0 ∷ []) $ frame ! $ frame ! $
         move ! (2 ∷ 3 ∷ []) $ fjoin ! $ move ! (2 ∷ 0 ∷ []) $ fjoin ! $ move ! (1 ∷ 0 ∷ []) $ fjoin ! $ pureI ! count (tt, (tt, tt)) p $ fjoin ! $ done !)))
 
-    pub mut-back : (z : ℕ × GName) (zs : List (R .Denot)) → ent 𝓤 (sep 𝓤 (A .lft (z .0 ∷ []) fullShare) (sep 𝓤 (sem 𝓤 H A (fsep (finally R (z .1) zs) (feq ℕ (length zs) (length ys)))) (sem 𝓤 H A (KeptMut z)))) (H .⇛ (sem 𝓤 H A (Kept κ q γ b o n zs)))
-    mut-back z zs =
+    abbrev Back : ℕ × GName → List (R .Denot) → SProp 𝓤
+    Back z zs = sep 𝓤 (A .lft (z .0 ∷ []) fullShare) (sep 𝓤 (sem 𝓤 H A (fsep (finally R (z .1) zs) (feq ℕ (length zs) (length ys)))) (sem 𝓤 H A (KeptMut z)))
+
+    pub counted-back : (z : ℕ × GName) (zs : List (R .Denot)) → ent 𝓤 (Back z zs) (H .⇛ (mean 𝓤 H A (given (length zs ≡ length ys) (‵ (Kept κ q γ b o n zs)))))
+    counted-back z zs =
         qed W (‵ (flft (z .0 ∷ []) fullShare) ∷ ‵ (fsep (finally R (z .1) zs) (feq ℕ (length zs) (length ys))) ∷ ‵ (KeptMut z) ∷ []) ∵ updating ! $ lft-end ! tt $ move ! (1 ∷ []) $ fsplit ! $ move ! (1 ∷ []) $ feqL ! (λ e.
         move ! (2 ∷ []) $ fsplit ! $ pureL ! count (λ p. fsplit ! $ move ! (3 ∷ 0 ∷ 2 ∷ []) $
         use3 W (later (‵ (Arr (mem R) (length ys) .lies zs b o))) (slice-back 𝓤 H A W R (z .0 ∷ []) (z .1) zs (length ys) b o) $ await ! tt $ fsplit ! $ drop ! $ use1 W (‵ (row R fullShare zs b o)) (whole-out 𝓤 H A W R zs b o) $
         move ! (1 ∷ []) $ fsplit ! $ move ! (1 ∷ []) $ fsplit ! $ move ! (3 ∷ 2 ∷ 0 ∷ 1 ∷ []) $ closes-slice ! tt R ys zs e b o $
-        at-once ! $ fjoin ! $ pureI ! (at-slice R (at-list γ b o zs) Counted) (tt, (tt, tt)) (p .0 ∙ ap (λ (m : ℕ). sliceVal (b, o) m ∷ []) (sym e), subst (Room R) (sym e) (p .1)) $ fjoin ! $ fjoin ! $ done !))
+        at-once ! $ check ! e $ fjoin ! $ pureI ! (at-slice R (at-list γ b o zs) Counted) (tt, (tt, tt)) (p .0 ∙ ap (λ (m : ℕ). sliceVal (b, o) m ∷ []) (sym e), subst (Room R) (sym e) (p .1)) $ fjoin ! $ fjoin ! $ done !))
+
+    pub mut-back : (z : ℕ × GName) (zs : List (R .Denot)) → ent 𝓤 (Back z zs) (H .⇛ (sem 𝓤 H A (Kept κ q γ b o n zs)))
+    mut-back z zs = qed W (raw (Back z zs) ∷ []) ∵ updating ! $ use1 W (later (given (length zs ≡ length ys) (‵ (Kept κ q γ b o n zs)))) (counted-back z zs) $ await ! tt $ learn ! (λ _. at-once ! $ done !)
 
     -- ---- lent again as a `&[R]`
     abbrev KeptShr : ℕ × GName → Fml
@@ -182,7 +189,7 @@ module _ (R : RattleType) where
     pub passed-back : ent 𝓤 (sep 𝓤 (A .lft κ q) (sep 𝓤 (sem 𝓤 H A ftrue) (sem 𝓤 H A Own))) (H .⇛ (sem 𝓤 H A (Shown κ q γ b o n ys)))
     passed-back = qed W (‵ (flft κ q) ∷ ‵ ftrue ∷ ‵ Own ∷ []) ∵ updating ! $ at-once ! $ move ! (2 ∷ 0 ∷ []) $ fjoin ! $ keep ! (0 ∷ []) $ done !
 
--- ---- the three loans
+-- ---- the four loans
 module _ {R : RattleType} {M : Type 1} {𝓤 : URA M} {H : Heap 𝓤} {A : Atoms 𝓤} (W : Given 𝓤 H A) (κ : Lft) (q : Share) (γ : GName) {b o n : ℕ} {ys : List (R .Denot)} where
   abbrev pub relent : MutLoan 𝓤 H A R b o n ys
   relent = record {
@@ -195,6 +202,19 @@ module _ {R : RattleType} {M : Type 1} {𝓤 : URA M} {H : Heap 𝓤} {A : Atoms
     keeps = KeptMut R 𝓤 H A W κ q γ b o n ys;
     lends = lends-mut R 𝓤 H A W κ q γ b o n ys;
     returns = mut-back R 𝓤 H A W κ q γ b o n ys;
+  }
+
+  abbrev pub recounted : MutLoan 𝓤 H A R b o n ys
+  recounted = record {
+    Made = ℕ × GName;
+    lifetime = λ z. z .0 ∷ [];
+    share = λ z. fullShare;
+    name = λ z. z .1;
+    before = ‵ (Kept R κ q γ b o n ys);
+    after = λ zs. given (length zs ≡ length ys) (‵ (Kept R κ q γ b o n zs));
+    keeps = KeptMut R 𝓤 H A W κ q γ b o n ys;
+    lends = lends-mut R 𝓤 H A W κ q γ b o n ys;
+    returns = counted-back R 𝓤 H A W κ q γ b o n ys;
   }
 
   abbrev pub reshown : ShrLoan 𝓤 H A R b o n ys

@@ -36,6 +36,7 @@ pub struct Reading {
 }
 
 // One record of the level store: the state above the level, and the place of its opening.
+#[repr(C)]
 pub struct Level {
     pub above: u8,
     pub opened: u32,
