@@ -1,6 +1,7 @@
 -- One turn of feeding keeps what is left to come: an event that is taken, one that is refused, and a run that is passed over.
 -- What was a reading still is one, and each event that is taken is one more.
 use mathlib.Core.Path.{_≡_, refl, sym, ap, _∙_}
+use mathlib.Core.Bool.{Bool}
 use mathlib.Core.List.{List, [], _∷_}
 use Prim.Native.Nat.{ℕ, _+_, _-_, _≤_, _<_}
 use native.Mathlib.Numerals.{add-one}
@@ -11,7 +12,7 @@ use Rattle.meaning.specs.Answers.{Answer, given}
 use Rattle.meaning.specs.RuleFile as format
 use Rattle.meaning.specs.RuleFile.{ruleOf}
 use Rattle.meaning.specs.FullReading.{Event, Turn, Went, looked, feedBy}
-use Rattle.meaning.specs.Skipping.{passed}
+use Rattle.meaning.specs.Skipping.{passed, held, settled}
 use Rattle.meaning.specs.Calls.{Stored, topOf, storedAfter, storeStep, refusalSays, feedingSays}
 use Rattle.meaning.specs.declared.Feeding.{Feeding}
 use Rattle.meaning.specs.declared.Feeding.the-variants as feeding
@@ -24,7 +25,7 @@ use Rattle.meaning.proofs.StillReading.{IsReading, reading-is, still-reading}
 use Rattle.meaning.proofs.StoreView.{step-turned}
 use Rattle.meaning.proofs.Turns.{Turned, passes, endsHeld, takesLetter, storesOpen, endsLooked}
 use Rattle.rule.specs.declared.Rule.{Rule}
-use Rattle.reading.specs.Turns.{Ready}
+use Rattle.reading.specs.Turns.{Ready, Stands}
 use Rattle.reading.specs.Feeding.{Feeds, over}
 use Rattle.reading.specs.PassingOver.{passedOn, PassesOver}
 use Rattle.reading.specs.Advancing.{restOf, rest, Goes, Advances, Gone}
@@ -66,6 +67,12 @@ passed-ready o h =
       states = record { stateIn = h .states .stateIn; aboveIn = h .states .aboveIn };
       counted = record { levelsTaken = o .nested; looksTaken = omega (arith, h .counted .looksTaken) };
     })
+
+-- and the level stands as it stood
+pub passed-stands : {k : ℕ} {book : List ℕ} {r : Reading} {top : Level} {events : List ℕ} {next : ℕ} {p : PassedOver} {isHeld isSettled : Bool}
+    → PassesOver k book r top events next p → Stands book r top isHeld isSettled → Stands book (p .reading) top isHeld isSettled
+unfolding passedOn held settled
+passed-stands o s = rw (o .same) (record { heldIs = s .heldIs; settledIs = s .settledIs })
 
 module _ {file : List ℕ} {rule : Rule} {book : List ℕ} {r : Reading} {store : List Level} (h : Feeds file rule book r store) where
   pub passed-feeds : {events : List ℕ} {next : ℕ} {p : PassedOver} → PassesOver (rule .letters) book r (topOf r store) events next p

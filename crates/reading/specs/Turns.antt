@@ -1,12 +1,14 @@
 -- What one event leads to, as the code has it and as the definitions have it, and what the code may count on there.
 use Prim.Native.Nat.{ℕ, _+_, _≤_, _<_}
 use mathlib.Core.Path.{_≡_}
+use mathlib.Core.Bool.{Bool}
 use mathlib.Core.List.{List}
 use lib.ListN.{length}
 use Rattle.meaning.specs.Answers.{Answer, given, refused, if_then_else_, _≤?_, _=?_}
 use Rattle.meaning.specs.FullReading as full
 use Rattle.meaning.specs.FullReading.{stays, stores, ends, mostEvents}
 use Rattle.meaning.specs.RuleFile.{none, checkRule, ruleOf}
+use Rattle.meaning.specs.Skipping.{held, settled}
 use Rattle.meaning.specs.declared.Reading.{Reading}
 use Rattle.meaning.specs.declared.Level.{Level}
 use Rattle.rule.specs.Says.{numbersOf}
@@ -57,3 +59,8 @@ pub record BookServes (book : List ℕ) (r : Reading) (top : Level) : Type 0 whe
   pub stateBit : r .state < 64
   pub stillWord : 0 < length book
   pub holdWord : 0 < r .depth → 1 + top .above < length book
+
+-- what the book says of the level: whether it is held, and whether it is settled
+pub record Stands (book : List ℕ) (r : Reading) (top : Level) (isHeld isSettled : Bool) : Type 0 where
+  pub heldIs : isHeld ≡ held book r top
+  pub settledIs : isSettled ≡ settled book r top

@@ -3,6 +3,8 @@ use crate::Advance;
 use crate::Going;
 use crate::Turn;
 use crate::passing::pass_settled;
+use crate::settling::is_held;
+use crate::settling::is_settled;
 use crate::turns::skip_event;
 use meaning::Feeding;
 use meaning::Level;
@@ -10,11 +12,12 @@ use meaning::Reading;
 use meaning::Refusal;
 use rule::Rule;
 ghost use mathlib.Core.Path.{_≡_};
-ghost use Prim.Native.Nat.{_-_, _<_};
+ghost use mathlib.Core.Bool.{true};
+ghost use Prim.Native.Nat.{ℕ, _-_, _<_};
 ghost use mathlib.Core.List.{List};
 ghost use lib.ListN.{length};
 ghost use Rattle.meaning.specs.Calls.{topOf};
-ghost use Rattle.reading.specs.Turns.{Ready};
+ghost use Rattle.reading.specs.Turns.{RuleOf, Counted, StatesIn, Ready, Stands};
 ghost use Rattle.reading.specs.Feeding.{Feeds};
 ghost use Rattle.reading.specs.Advancing.{Advances};
 
@@ -32,7 +35,8 @@ pub fn top_place(reading: Reading) -> usize
 fn take_event(
     file: &[u8],
     rule: Rule,
-    book: &[u64],
+    held: bool,
+    settled: bool,
     room: usize,
     ceiling: u32,
     reading: Reading,
@@ -40,11 +44,21 @@ fn take_event(
     events: &[u16],
     next: usize,
 ) -> Advance
-    requires { ⌜ Ready (now file) rule (now book) reading top ⌝ ∗ ⌜ next < length (now events) ⌝ }
-    ensures { λ r. ⌜ ((store : List Level) → Feeds (now (file .entry)) rule (now (book .entry)) reading store → topOf reading store ≡ top → length store ≡ room → Advances (now (file .entry)) rule (now (book .entry)) ceiling store reading (now (events .entry)) next r) ⌝ }
+    requires { ⌜ RuleOf (now file) rule ⌝ ∗ ⌜ Counted reading ⌝ ∗ ⌜ StatesIn rule reading top ⌝ ∗ ⌜ (held ≡ true → 0 < reading .depth) ⌝ ∗ ⌜ next < length (now events) ⌝ }
+    ensures { λ r. ⌜ ((book : List ℕ) (store : List Level) → Stands book reading top held settled → Feeds (now (file .entry)) rule book reading store → topOf reading store ≡ top → length store ≡ room → Advances (now (file .entry)) rule book ceiling store reading (now (events .entry)) next r) ⌝ }
 {
     let following = next + 1;
-    let turn = skip_event(file, rule, book, room, ceiling, reading, top, events[next]);
+    let turn = skip_event(
+        file,
+        rule,
+        held,
+        settled,
+        room,
+        ceiling,
+        reading,
+        top,
+        events[next],
+    );
     match turn {
         Turn::Stays(after) => Advance {
             going: Going {
@@ -92,7 +106,8 @@ fn take_event(
     }
 }
 
-// One turn: what can be passed over where the reading stands is taken at once, and then the next event, if one is left.
+// One turn: what can be passed over where the reading stands is taken at once, and then the next event, if one is left. The
+// book is asked once: what is passed over leaves the level as it was.
 pub fn advance(
     file: &[u8],
     rule: Rule,
@@ -107,13 +122,16 @@ pub fn advance(
     requires { ⌜ Ready (now file) rule (now book) reading top ⌝ ∗ ⌜ next < length (now events) ⌝ }
     ensures { λ r. ⌜ ((store : List Level) → Feeds (now (file .entry)) rule (now (book .entry)) reading store → topOf reading store ≡ top → length store ≡ room → Advances (now (file .entry)) rule (now (book .entry)) ceiling store reading (now (events .entry)) next r) ⌝ }
 {
-    let passed = pass_settled(rule.letters, book, reading, top, events, next);
+    let held = is_held(book, reading, top);
+    let settled = is_settled(book, reading, held);
+    let passed = pass_settled(rule.letters, settled, reading, events, next);
     let after = passed.reading;
     if passed.next < events.len() {
         return take_event(
             file,
             rule,
-            book,
+            held,
+            settled,
             room,
             ceiling,
             after,

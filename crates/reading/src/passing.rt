@@ -1,7 +1,5 @@
 // Passing over a run of events on a settled level, by counting alone: no table, no store and no book is read.
 use crate::PassedOver;
-use crate::settling::is_held;
-use crate::settling::is_settled;
 use crate::turns::MOST_EVENTS;
 use meaning::Level;
 use meaning::Reading;
@@ -11,8 +9,8 @@ ghost use mathlib.Core.List.{List};
 ghost use Prim.Native.Nat.{ℕ, _+_, _-_, _≤_, _<_};
 ghost use lib.ListN.{length};
 ghost use Rattle.meaning.specs.FullReading.{mostEvents};
-ghost use Rattle.meaning.specs.Skipping.{settled};
-ghost use Rattle.reading.specs.Turns.{BookServes, Counted};
+ghost use Rattle.meaning.specs.Skipping as skipping;
+ghost use Rattle.reading.specs.Turns.{Counted};
 ghost use Rattle.reading.specs.PassingOver.{openings, closings, passedOn, PassesOver};
 
 // How many trees an event opens.
@@ -62,7 +60,7 @@ fn left_at(reading: Reading, skip: u32, from: usize, next: usize) -> PassedOver
 // On a settled level events are taken by counting alone, up to the close that ends the level or an event that is refused.
 fn pass_over(letters: u16, reading: Reading, events: &[u16], from: usize) -> PassedOver
     requires { ⌜ Counted reading ⌝ ∗ ⌜ letters ≤ 256 ⌝ ∗ ⌜ from ≤ length (now events) ⌝ }
-    ensures { λ r. ⌜ ((book : List ℕ) (top : Level) → settled book reading top ≡ true → PassesOver letters book reading top (now (events .entry)) from r) ⌝ }
+    ensures { λ r. ⌜ ((book : List ℕ) (top : Level) → skipping.settled book reading top ≡ true → PassesOver letters book reading top (now (events .entry)) from r) ⌝ }
 {
     let known = letters + 2;
     let end = last_event(reading.taken, from, events.len());
@@ -86,17 +84,15 @@ fn pass_over(letters: u16, reading: Reading, events: &[u16], from: usize) -> Pas
 // What can be passed over from here: nothing, unless the level is settled.
 pub fn pass_settled(
     letters: u16,
-    book: &[u64],
+    settled: bool,
     reading: Reading,
-    top: Level,
     events: &[u16],
     from: usize,
 ) -> PassedOver
-    requires { ⌜ BookServes (now book) reading top ⌝ ∗ ⌜ Counted reading ⌝ ∗ ⌜ letters ≤ 256 ⌝ ∗ ⌜ from ≤ length (now events) ⌝ }
-    ensures { λ r. ⌜ PassesOver letters (now (book .entry)) reading top (now (events .entry)) from r ⌝ }
+    requires { ⌜ Counted reading ⌝ ∗ ⌜ letters ≤ 256 ⌝ ∗ ⌜ from ≤ length (now events) ⌝ }
+    ensures { λ r. ⌜ ((book : List ℕ) (top : Level) → settled ≡ skipping.settled book reading top → PassesOver letters book reading top (now (events .entry)) from r) ⌝ }
 {
-    let held = is_held(book, reading, top);
-    if is_settled(book, reading, held) {
+    if settled {
         return pass_over(letters, reading, events, from);
     }
     PassedOver {

@@ -1,8 +1,6 @@
 // What one event leads to, from the reading and the innermost level's record alone: the level store is not seen here.
 // Each function answers what the definition of its name says.
 use crate::Turn;
-use crate::settling::is_held;
-use crate::settling::is_settled;
 use meaning::Level;
 use meaning::Reading;
 use rule::Rule;
@@ -16,7 +14,7 @@ ghost use Rattle.meaning.specs.FullReading.{opens, closes, letter, eventOf, ful
 ghost use Rattle.meaning.specs.FullReading as full;
 ghost use Rattle.meaning.specs.Skipping as skipping;
 ghost use Rattle.meaning.specs.Skipping.{endsLevel, settledTurn, skipEvent};
-ghost use Rattle.reading.specs.Turns.{turnSays, lookNumber, RuleOf, OneMore, StatesIn, Ready};
+ghost use Rattle.reading.specs.Turns.{turnSays, lookNumber, RuleOf, Counted, OneMore, StatesIn, Stands};
 
 // The most events that a reading takes.
 pub const MOST_EVENTS: u32 = 4294967295;
@@ -194,15 +192,16 @@ fn full_turn(
 pub fn skip_event(
     file: &[u8],
     rule: Rule,
-    book: &[u64],
+    held: bool,
+    settled: bool,
     room: usize,
     ceiling: u32,
     reading: Reading,
     top: Level,
     event: u16,
 ) -> Turn
-    requires { ⌜ Ready (now file) rule (now book) reading top ⌝ }
-    ensures { λ r. ⌜ turnSays reading r ≡ skipEvent (ruleOf (now (file .entry))) (now (book .entry)) room ceiling reading top event ⌝ }
+    requires { ⌜ RuleOf (now file) rule ⌝ ∗ ⌜ Counted reading ⌝ ∗ ⌜ StatesIn rule reading top ⌝ ∗ ⌜ (held ≡ true → 0 < reading .depth) ⌝ }
+    ensures { λ r. ⌜ ((book : List ℕ) → Stands book reading top held settled → turnSays reading r ≡ skipEvent (ruleOf (now (file .entry))) book room ceiling reading top event) ⌝ }
 {
     let known = rule.letters + 2;
     if MOST_EVENTS <= reading.taken {
@@ -211,8 +210,6 @@ pub fn skip_event(
     if known <= event {
         return Turn::Refused(10);
     }
-    let held = is_held(book, reading, top);
-    let settled = is_settled(book, reading, held);
     if settled {
         return settled_turn(file, rule, held, ceiling, reading, top, event);
     }

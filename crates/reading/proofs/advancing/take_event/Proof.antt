@@ -3,6 +3,7 @@
 -- Assumes nothing.
 use mathlib.Core.Path.{_≡_, refl, sym, _∙_}
 use mathlib.Core.List.{List}
+use Prim.Native.Nat.{ℕ}
 use denote.Ref.{now}
 use lib.ListN.{length, getD}
 use native.Mathlib.Omega.{arith}
@@ -11,7 +12,7 @@ use Rattle.meaning.specs.Answers.{given, _giving_}
 use Rattle.meaning.specs.RuleFile.{ruleOf}
 use Rattle.meaning.specs.declared.Level.{Level}
 use Rattle.meaning.specs.Calls.{refusalSays, topOf, storedAfter, storeStep}
-use Rattle.reading.specs.Turns.{turnSays}
+use Rattle.reading.specs.Turns.{turnSays, Stands}
 use Rattle.reading.specs.Feeding.{over}
 use Rattle.reading.proofs.Steps.{step-of}
 use Rattle.reading.proofs.OneTurn.{takes, refuses}
@@ -20,11 +21,11 @@ use Rattle.reading.proofs.advancing.take_event.Statement.{statement}
 use Rattle.reading.proofs.advancing.take_event.Tie as tie
 
 -- what the event comes to, from its turn
-stepped : (c : tie.After-skip-event) → let a = c .before .before .before .before .before .args in
-    (store : List Level) → topOf (a .reading) store ≡ a .top → length store ≡ a .room
-    → storeStep (ruleOf (now (a .file))) (now (a .book)) (a .ceiling) (over (a .reading) store) (getD (now (a .events)) (a .next) 0)
+stepped : (c : tie.After-skip-event) → let a = c .before .before .before .before .args in
+    (book : List ℕ) (store : List Level) → Stands book (a .reading) (a .top) (a .held) (a .settled) → topOf (a .reading) store ≡ a .top → length store ≡ a .room
+    → storeStep (ruleOf (now (a .file))) book (a .ceiling) (over (a .reading) store) (getD (now (a .events)) (a .next) 0)
     ≡ (turnSays (a .reading) (c .skip-event .result) giving λ turn. given (storedAfter (a .reading) store turn))
-stepped c store top room = step-of _ _ _ _ _ _ (c .skip-event .result) (sym room) (sym top) (c .skip-event .ensures)
+stepped c book store stands top room = step-of _ _ _ _ _ _ (c .skip-event .result) (sym room) (sym top) (c .skip-event .ensures book stands)
 
 add-following : tie.Need-add-following
 add-following c = search needs
@@ -58,23 +59,23 @@ cast-place-2 c = search needs
 
 returns : tie.Need-returns
 unfolding turnSays _giving_ storedAfter
-returns c store h top room =
-    takes _ h _ (c .before .before .before .before .before .before .before .before .pre .1) _ _ _ (stepped (c .before .before .before) store top room ∙ rw (c .before .turn .given .1)) (set-out store _ _ (omega arith))
+returns c book store stands h top room =
+    takes _ h _ (c .before .before .before .before .before .before .before .pre .1 .1 .1 .1) _ _ _ (stepped (c .before .before .before) book store stands top room ∙ rw (c .before .turn .given .1)) (set-out store _ _ (omega arith))
 
 returns-2 : tie.Need-returns-2
 unfolding turnSays _giving_ storedAfter
-returns-2 c store h top room =
-    takes _ h _ (c .before .before .before .before .before .before .before .before .pre .1) _ _ _ (stepped (c .before .before .before) store top room ∙ rw (c .before .turn2 .given .1)) (set-out store _ _ (omega arith))
+returns-2 c book store stands h top room =
+    takes _ h _ (c .before .before .before .before .before .before .before .pre .1 .1 .1 .1) _ _ _ (stepped (c .before .before .before) book store stands top room ∙ rw (c .before .turn2 .given .1)) (set-out store _ _ (omega arith))
 
 returns-3 : tie.Need-returns-3
 unfolding turnSays _giving_ storedAfter
-returns-3 c store h top room =
-    takes _ h _ (c .before .before .before .before .before .before .before .before .before .pre .1) _ _ _ (stepped (c .before .before .before .before) store top room ∙ rw (c .before .before .turn3 .given .1)) refl
+returns-3 c book store stands h top room =
+    takes _ h _ (c .before .before .before .before .before .before .before .before .pre .1 .1 .1 .1) _ _ _ (stepped (c .before .before .before .before) book store stands top room ∙ rw (c .before .before .turn3 .given .1)) refl
 
 returns-4 : tie.Need-returns-4
 unfolding turnSays _giving_ storedAfter refusalSays
-returns-4 c store h top room =
-    refuses _ h _ (c .before .before .before .before .before .before .before .before .before .pre .1) _ _ _ (stepped (c .before .before .before .before) store top room ∙ rw (c .before .before .turn4 .given .1)) (set-out store _ _ (omega arith))
+returns-4 c book store stands h top room =
+    refuses _ h _ (c .before .before .before .before .before .before .before .before .pre .1 .1 .1 .1) _ _ _ (stepped (c .before .before .before .before) book store stands top room ∙ rw (c .before .before .turn4 .given .1)) (set-out store _ _ (omega arith))
 
 pub take-event-spec : {M : Type 1} → statement M
 take-event-spec =

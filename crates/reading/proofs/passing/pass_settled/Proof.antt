@@ -6,23 +6,16 @@ use Rattle.reading.proofs.PassesOn.{passes-none}
 use Rattle.reading.proofs.passing.pass_settled.Statement.{statement}
 use Rattle.reading.proofs.passing.pass_settled.Tie as tie
 
-is-held-requires : tie.Need-is-held-requires
-is-held-requires c κs = search needs
-
-is-settled-requires : tie.Need-is-settled-requires
-is-settled-requires c κs = search needs
-
 pass-over-requires : tie.Need-pass-over-requires
 pass-over-requires c κs = search needs
 
 returns : tie.Need-returns
-returns c = c .pass-over .ensures _ _ (sym (c .before .before .is-settled .ensures _ (c .before .before .before .is-held .ensures)) ∙ c .before .if1 .taken)
+returns c book top is = c .pass-over .ensures book top (sym is ∙ c .before .if1 .taken)
 
 returns-2 : tie.Need-returns-2
-returns-2 c =
-    let s = c .before .before .before .before .before in
-    passes-none _ _ _ _ _ _ (s .pre .1 .1 .1) (s .pre .1 .0 .levelsTaken)
+returns-2 c book top is =
+    let s = c .before .before in
+    passes-none _ _ _ _ _ _ (s .pre .1 .1) (s .pre .0 .levelsTaken)
 
 pub pass-settled-spec : {M : Type 1} → statement M
-pass-settled-spec =
-    tie.close (tie.spec is-held-requires is-settled-requires pass-over-requires returns returns-2)
+pass-settled-spec = tie.close (tie.spec pass-over-requires returns returns-2)
