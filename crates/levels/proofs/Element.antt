@@ -12,6 +12,7 @@ use denote.Struct.Laws as LL
 use Rattle.meaning.specs.declared.Level.{Level}
 use Rattle.meaning.proofs.Level as L
 use Rattle.meaning.proofs.Level.Laws as L′
+use Rattle.levels.proofs.Values.{Valued, of-struct}
 
 abbrev pub record-type : RattleType
 record-type = L.the-row
@@ -40,3 +41,7 @@ module _ {M : Type 1} (𝓤 : URA M) (H : Heap 𝓤) (A : Atoms 𝓤) where
   -- so it may be stored in a local
   pub typed : Given 𝓤 H A → (d : Level) → Fits d → T (hasTy L′.mir (machine d)) × WT (machine d)
   typed W d p = LL.lawful L.the-type L′.the-laws 𝓤 H A W .typed d (machines d) p .0
+
+-- a record passed by value
+abbrev pub level-value : Valued
+level-value = of-struct L.the-type L′.the-laws L′.the-plain

@@ -11,3 +11,4 @@ pub mod Lines
 pub mod Parameters
 pub mod Values
 pub mod ArrayFields
+pub mod Listed

@@ -42,11 +42,11 @@ use Rattle.reading.specs.declared.Going.{Going}
 use Rattle.reading.proofs.FedArray as Fa
 use Rattle.reading.proofs.FedArray.Laws as Fa′
 use Rattle.levels.proofs.Values.{Valued, FitsIn, passed, of-struct, of-enum}
-use Rattle.levels.proofs.Element.{record-type}
+use Rattle.levels.proofs.Element.{record-type, level-value}
 use Rattle.levels.proofs.InPlace.{Gives}
 use Rattle.levels.proofs.Passing.{Said, lent, number, replies-one, replies-with}
 use Rattle.levels.proofs.Loans.{at-list, MutLoan, as-mut, ShrLoan, as-shr}
-use Rattle.reading.proofs.Passed.{level-value, reading-value, rule-value, checked-value, going-value}
+use Rattle.reading.proofs.Passed.{reading-value, rule-value, checked-value, going-value}
 use Rattle.reading.proofs.checking.admit as admit
 use Rattle.reading.proofs.checking.admit.Symbol.{name as #admit}
 use Rattle.reading.proofs.feeding.started as started

@@ -45,7 +45,7 @@ use Rattle.reading.proofs.Going.Laws as Go′
 use Rattle.reading.proofs.Advance as Ad
 use Rattle.reading.proofs.Advance.Laws as Ad′
 use Rattle.levels.proofs.Values.{Valued, FitsIn, passed, of-struct, of-enum}
-use Rattle.levels.proofs.Element.{record-type}
+use Rattle.levels.proofs.Element.{record-type, level-value}
 use Rattle.levels.proofs.InPlace.{Gives}
 use Rattle.levels.proofs.Passing.{Said, lent, number, flag, replies-one, replies-with, two-facts}
 use Rattle.levels.proofs.Loans.{at-list, ShrLoan, as-shr}
@@ -65,9 +65,6 @@ use Rattle.reading.proofs.advancing.top_place as top-place
 use Rattle.reading.proofs.advancing.top_place.Symbol.{name as #top-place}
 use Rattle.reading.proofs.advancing.advance as advance
 use Rattle.reading.proofs.advancing.advance.Symbol.{name as #advance}
-
-abbrev pub level-value : Valued
-level-value = of-struct L.the-type L′.the-laws L′.the-plain
 
 abbrev pub reading-value : Valued
 reading-value = of-struct Rd.the-type Rd′.the-laws Rd′.the-plain

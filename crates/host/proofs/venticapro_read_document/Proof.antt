@@ -21,22 +21,21 @@ use contract.Running.{givenOf, tables, tablesOf}
 use types.Kit.{Given, Item, ‵, ⋆, _$_, _∵_, !, qed, by, suffices}
 use types.Run.{look, no-more, and-then, returns}
 use denote.RattleType.{RattleType}
-use denote.Laws.{Is, all-typed}
+use denote.Laws.{Is, all-typed, valss}
 use denote.Plain.{bool-makes}
 use denote.Builtin.{u8, u16, u64, bool}
 use denote.Ref.{at-last}
-use denote.Slice.{sliceVal, MutSlice, ShrSlice, slice-vals, mut-slice-tells, shr-slice-tells, mut-slice-lawful, shr-slice-lawful}
-use denote.Signature.{plain, shrSliceOf}
+use denote.Slice.{sliceVal, MutSlice, ShrSlice, slice-vals}
 use denote.Triple.Entry.{Args, Vals, onEntry}
 use denote.Triple.Spec.{Meets, tripleOf}
 use denote.Triple.Table.{cited}
-use denote.Triple.Walked.{says, Stays, stay-slice, stay-dropped, goes-slice, goes-dropped, walkOf, ends-at}
-use denote.Exit.{yes}
+use denote.Triple.Walked.{says, Stays, walkOf, ends-at}
 use Rattle.meaning.specs.declared.Level.{Level}
 use Rattle.levels.proofs.Values.{storable}
 use Rattle.levels.proofs.Locals.{placed, freed}
 use Rattle.levels.proofs.Lines.{var, count, pointer, bundle, lets, lands-in, begins}
-use Rattle.levels.proofs.Parameters.{Kind, shared, unique, holds, leaves}
+use Rattle.levels.proofs.Listed.{Parameter, of-shared, of-unique, kinds, stays, rows, spells, tellss, lawfuls, all-go}
+use Rattle.levels.proofs.Parameters.{holds, leaves}
 use Rattle.levels.proofs.Meets.{proved}
 use Rattle.levels.proofs.Element.{record-type}
 use Rattle.levels.proofs.InPlace.{learns, calls-by}
@@ -60,11 +59,11 @@ use Rattle.host.proofs.venticapro_read_document as venticapro-read-docu
 use Rattle.host.proofs.venticapro_read_document.Statement as stated
 use Rattle.host.proofs.venticapro_read_document.Code as code
 
-abbrev kinds : List Kind
-kinds = shared ∷ unique ∷ unique ∷ shared ∷ unique ∷ []
+abbrev ps : List (Parameter 5)
+ps = of-shared 0 tt u8 ∷ of-unique 1 tt u64 ∷ of-unique 2 tt record-type ∷ of-shared 3 tt u16 ∷ of-unique 4 tt u64 ∷ []
 
 abbrev stayed : Stays (venticapro-read-document.ended .signature .params) (venticapro-read-document.ended .kept)
-stayed = (stay-dropped (shrSliceOf (0 ∷ []) tt (plain (λ _. u8))) yes, (stay-slice (1 ∷ []) tt (plain (λ _. u64)), (stay-slice (2 ∷ []) tt (plain (λ _. record-type)), (stay-dropped (shrSliceOf (3 ∷ []) tt (plain (λ _. u16))) yes, (stay-slice (4 ∷ []) tt (plain (λ _. u64)), tt)))))
+stayed = stays ps
 
 module _ {M : Type 1} (𝓤 : URA M) (H : Heap 𝓤) (A : Atoms 𝓤) (W : Given 𝓤 H A) (at-mem : Memory → SProp 𝓤) (run : Routine → Fun 𝓤) (𝓣 : Tables 𝓤 H) (κs : Lfts 5) (qs : Shares 5) (a : Args venticapro-read-document.signature κs) where
   abbrev file : List ℕ
@@ -89,10 +88,10 @@ module _ {M : Type 1} (𝓤 : URA M) (H : Heap 𝓤) (A : Atoms 𝓤) (W : Given
   laid end = inFront (listed judgedValues (endSays end)) answer
 
   abbrev at : Vals venticapro-read-document.signature κs
-  at = (slice-vals (a .0), (slice-vals (a .1 .0), (slice-vals (a .1 .1 .0), (slice-vals (a .1 .1 .1 .0), (slice-vals (a .1 .1 .1 .1 .0), tt)))))
+  at = valss (rows ps κs) (spells ps κs) a
 
   abbrev params : List RattleType
-  params = ShrSlice (named 0) (κs .0) u8 ∷ MutSlice (named 1) (κs .1 .0) u64 ∷ MutSlice (named 2) (κs .1 .1 .0) record-type ∷ ShrSlice (named 3) (κs .1 .1 .1 .0) u16 ∷ MutSlice (named 4) (κs .1 .1 .1 .1 .0) u64 ∷ []
+  params = rows ps κs
 
   abbrev Post : Val → SProp 𝓤
   Post = walkOf 𝓤 H A venticapro-read-document.ended stayed (venticapro-read-document.clauses 𝓤 H A at-mem run) .post ((κs, qs, tt, a, at), tt)
@@ -116,15 +115,15 @@ module _ {M : Type 1} (𝓤 : URA M) (H : Heap 𝓤) (A : Atoms 𝓤) (W : Given
   exits end fitted same-book same-levels same-answer said =
       qed W (File ∷ Book (comes .book) ∷ Levels (comes .store) ∷ Events ∷ Answer (laid end) ∷ []) ∵
       suffices ! _ (ends-at 𝓤 H A venticapro-read-document.ended stayed (venticapro-read-document.clauses 𝓤 H A at-mem run) W ((κs, qs, tt, a, at), tt) (vbool fitted) fitted (tt, ((comes .book), ((comes .store), (tt, ((laid end), tt))))) (tt, (same-book, (same-levels, (tt, (same-answer, tt)))))) $ says ! said $
-      by ! (leaves 𝓤 H A W kinds params 5 tt κs qs (a .0, (at-last (a .1 .0) (comes .book), (at-last (a .1 .1 .0) (comes .store), (a .1 .1 .1 .0, (at-last (a .1 .1 .1 .1 .0) (laid end), tt))))) at (bool .own fitted (vbool fitted ∷ [])) (bool-makes 𝓤 H A W fitted (vbool fitted ∷ []) refl))
+      by ! (leaves 𝓤 H A W (kinds ps) params 5 tt κs qs (a .0, (at-last (a .1 .0) (comes .book), (at-last (a .1 .1 .0) (comes .store), (a .1 .1 .1 .0, (at-last (a .1 .1 .1 .1 .0) (laid end), tt))))) at (bool .own fitted (vbool fitted ∷ [])) (bool-makes 𝓤 H A W fitted (vbool fitted ∷ []) refl))
 
   module _ (read-document-known : Meets 𝓤 H A read-document.signature (𝓣 .C #read-document) (read-document.spec 𝓤 H A at-mem run)) (lay-end-known : Meets 𝓤 H A lay-end.signature (𝓣 .C #lay-end) (lay-end.spec 𝓤 H A at-mem run))
       (p0 : Is (ShrSlice (named 0) (κs .0) u8) (a .0) (slice-vals (a .0))) (p1 : Is (MutSlice (named 1) (κs .1 .0) u64) (a .1 .0) (slice-vals (a .1 .0))) (p2 : Is (MutSlice (named 2) (κs .1 .1 .0) record-type) (a .1 .1 .0) (slice-vals (a .1 .1 .0))) (p3 : Is (ShrSlice (named 3) (κs .1 .1 .1 .0) u16) (a .1 .1 .1 .0) (slice-vals (a .1 .1 .1 .0))) (p4 : Is (MutSlice (named 4) (κs .1 .1 .1 .1 .0) u64) (a .1 .1 .1 .1 .0) (slice-vals (a .1 .1 .1 .1 .0))) where
     walk : ent 𝓤 (onEntry 𝓤 H A venticapro-read-document.signature κs qs a at) (WpFn 𝓤 H (𝓣 .C) (𝓣 .Λ) code.function (sliceVal (a .0 .ptr) (length file) ∷ sliceVal (a .1 .0 .ptr) (length book) ∷ sliceVal (a .1 .1 .0 .ptr) (length levels) ∷ sliceVal (a .1 .1 .1 .0 .ptr) (length events) ∷ sliceVal (a .1 .1 .1 .1 .0 .ptr) (length answer) ∷ []) Post)
     walk =
-        via 𝓤 (⋆ 𝓤 H A (File ∷ Book book ∷ Levels levels ∷ Events ∷ Answer answer ∷ [])) (holds 𝓤 H A W kinds params 5 tt κs qs a at) (qed W (File ∷ Book book ∷ Levels levels ∷ Events ∷ Answer answer ∷ []) ∵
+        via 𝓤 (⋆ 𝓤 H A (File ∷ Book book ∷ Levels levels ∷ Events ∷ Answer answer ∷ [])) (holds 𝓤 H A W (kinds ps) params 5 tt κs qs a at) (qed W (File ∷ Book book ∷ Levels levels ∷ Events ∷ Answer answer ∷ []) ∵
         begins ! (𝓣 .C) (𝓣 .Λ) code.function (sliceVal (a .0 .ptr) (length file) ∷ sliceVal (a .1 .0 .ptr) (length book) ∷ sliceVal (a .1 .1 .0 .ptr) (length levels) ∷ sliceVal (a .1 .1 .1 .0 .ptr) (length events) ∷ sliceVal (a .1 .1 .1 .1 .0 .ptr) (length answer) ∷ []) _
-        (all-typed 𝓤 H A params (shr-slice-lawful 𝓤 H A W (named 0) (κs .0) u8, (mut-slice-lawful 𝓤 H A W (named 1) (κs .1 .0) u64, (mut-slice-lawful 𝓤 H A W (named 2) (κs .1 .1 .0) record-type, (shr-slice-lawful 𝓤 H A W (named 3) (κs .1 .1 .1 .0) u16, (mut-slice-lawful 𝓤 H A W (named 4) (κs .1 .1 .1 .1 .0) u64, tt))))) a at (p0, (p1, (p2, (p3, (p4, tt)))))) (λ bs.
+        (all-typed 𝓤 H A params (lawfuls 𝓤 H A W ps κs) a at (p0, (p1, (p2, (p3, (p4, tt)))))) (λ bs.
         -- file, book, levels, events and answer stand at 14 to 18
         lets ! (pointer ! refl refl refl) refl (tt, tt) $ lets ! (bundle ! (var ! refl) (count ! refl refl refl)) refl (tt, (tt, (record { fits = p1 .0 .1 .0 }, tt))) $
         lets ! (pointer ! refl refl refl) refl (tt, tt) $ lets ! (bundle ! (var ! refl) (count ! refl refl refl)) refl (tt, (tt, (record { fits = p2 .0 .1 .0 }, tt))) $
@@ -138,9 +137,7 @@ unfolding code.routine tablesOf
 venticapro-read-document-spec 𝓤 H 𝓜 𝓖 𝓡 =
     let W = givenOf 𝓤 H 𝓜 𝓖 in
     proved 𝓤 H 𝓜 𝓖 𝓡 venticapro-read-document.ended (venticapro-read-document.clauses 𝓤 H (𝓖 .A) (𝓜 .mem) (𝓡 .run)) stayed code.function code.env #venticapro-read-document (code.unfolded 𝓤 H 𝓜 𝓡)
-    (goes-dropped 𝓤 H (𝓖 .A) W 5 (shrSliceOf (0 ∷ []) tt (plain (λ _. u8))) yes (λ κs x f. refl), (goes-slice 𝓤 H (𝓖 .A) W 5 1 tt (plain (λ _. u64)), (goes-slice 𝓤 H (𝓖 .A) W 5 2 tt (plain (λ _. record-type)), (goes-dropped 𝓤 H (𝓖 .A) W 5 (shrSliceOf (3 ∷ []) tt (plain (λ _. u16))) yes (λ κs x f. refl), (goes-slice 𝓤 H (𝓖 .A) W 5 4 tt (plain (λ _. u64)), tt)))))
-    (λ κs. (slice-vals, (slice-vals, (slice-vals, (slice-vals, (slice-vals, tt))))))
-    (λ κs. (shr-slice-tells (named 0) (κs .0) u8, (mut-slice-tells (named 1) (κs .1 .0) u64, (mut-slice-tells (named 2) (κs .1 .1 .0) record-type, (shr-slice-tells (named 3) (κs .1 .1 .1 .0) u16, (mut-slice-tells (named 4) (κs .1 .1 .1 .1 .0) u64, tt))))))
+    (all-go 𝓤 H (𝓖 .A) W ps) (spells ps) (tellss ps)
     (λ κs qs bounds a g are. via 𝓤 _ (fst∗ 𝓤 _ (emp 𝓤)) (walk 𝓤 H (𝓖 .A) W (𝓜 .mem) (𝓡 .run) (tablesOf 𝓤 H 𝓜 (tables 𝓤 H 𝓜 𝓡 code.env)) κs qs a
     (cited 𝓤 H (tripleOf 𝓤 H (𝓖 .A) read-document.signature (read-document.spec 𝓤 H (𝓖 .A) (𝓜 .mem) (𝓡 .run))) 𝓜 𝓡 code.env #read-document read-document-def.routine code.calls-reading·read-document (read-document-thm.met 𝓤 H 𝓜 𝓖 𝓡))
     (cited 𝓤 H (tripleOf 𝓤 H (𝓖 .A) lay-end.signature (lay-end.spec 𝓤 H (𝓖 .A) (𝓜 .mem) (𝓡 .run))) 𝓜 𝓡 code.env #lay-end lay-end-def.routine code.calls-host·answers·lay-end (lay-end-thm.met 𝓤 H 𝓜 𝓖 𝓡))

@@ -25,16 +25,13 @@ use types.Part.{whole, sub, agg, look-in}
 use types.Run.{look, look-raw, init, stop, hop, fld, from, load, lit, no-more, and-then, of-opd, bin, assigns, assigns-last, first, branches, exec, returns}
 use denote.RattleType.{owns}
 use denote.Laws.{Is, shows}
-use denote.Plain.{uint-vals, uint-tells}
 use denote.Builtin.{usize}
-use denote.Slice.{sliceVal, ShrSlice, slice-vals, shr-slice-tells, shr-slice-lawful}
+use denote.Slice.{sliceVal, ShrSlice, shr-slice-lawful}
 use denote.Index.{place, place-is, elem-out, elem-back, looks-slice, shuts-slice}
-use denote.Signature.{plain, shrSliceOf}
 use denote.Steps.{nothing, owned}
 use denote.Struct.Laws as LL
 use denote.Triple.Entry.{onEntry}
-use denote.Triple.Walked.{says, Stays, stay-dropped, goes-dropped, walkOf, ends-at}
-use denote.Exit.{yes}
+use denote.Triple.Walked.{says, Stays, walkOf, ends-at}
 use denote.Ref.{RefT}
 use Rattle.meaning.specs.declared.Level.{Level}
 use Rattle.meaning.specs.FullReading.{blank}
@@ -42,6 +39,7 @@ use Rattle.meaning.proofs.Level as L
 use Rattle.meaning.proofs.Level.Laws as L′
 use Rattle.levels.proofs.Locals.{Blocks, placed, lying, dying, freed}
 use Rattle.levels.proofs.Lines.{var, count, lets, lets-last, begins}
+use Rattle.levels.proofs.Listed.{Parameter, of-shared, of-number, stays, spells, tellss, all-go}
 use Rattle.levels.proofs.Meets.{proved}
 use Rattle.levels.proofs.Element.{record-type, machine, machines, Fits, tells, makes, copies, typed}
 use Rattle.levels.proofs.level_at.Key.{name as #levels·level-at}
@@ -51,8 +49,11 @@ use Rattle.levels.proofs.level_at.Code as code
 use Rattle.levels.proofs.level_at.Code.Mir as body
 
 -- nothing is had of a parameter at exit: a `&` and a number are seen as they were passed
+abbrev ps : List (Parameter 1)
+ps = of-shared 0 tt record-type ∷ of-number w64 ∷ []
+
 abbrev stayed : Stays (level-at.ended .signature .params) (level-at.ended .kept)
-stayed = (stay-dropped (shrSliceOf (0 ∷ []) tt (plain (λ _. record-type))) yes, (stay-dropped (plain (λ _. usize)) yes, tt))
+stayed = stays ps
 
 blank-fits : Fits blank
 unfolding blank
@@ -128,6 +129,5 @@ unfolding code.routine tablesOf
 level-at-spec 𝓤 H 𝓜 𝓖 𝓡 =
     let W = givenOf 𝓤 H 𝓜 𝓖 in
     proved 𝓤 H 𝓜 𝓖 𝓡 level-at.ended (level-at.clauses 𝓤 H (𝓖 .A) (𝓜 .mem) (𝓡 .run)) stayed code.function code.env #levels·level-at (code.unfolded 𝓤 H 𝓜 𝓡)
-    (goes-dropped 𝓤 H (𝓖 .A) W 1 (shrSliceOf (0 ∷ []) tt (plain (λ _. record-type))) yes (λ κs x f. refl), (goes-dropped 𝓤 H (𝓖 .A) W 1 (plain (λ _. usize)) yes (λ κs x f. refl), tt))
-    (λ κs. (slice-vals, (uint-vals w64, tt))) (λ κs. (shr-slice-tells (named 0) (κs .0) record-type, (uint-tells w64, tt)))
+    (all-go 𝓤 H (𝓖 .A) W ps) (spells ps) (tellss ps)
     (λ κs qs bounds a g are. via 𝓤 _ (fst∗ 𝓤 _ (emp 𝓤)) (walk 𝓤 H (𝓖 .A) W (𝓜 .mem) (𝓡 .run) (tablesOf 𝓤 H 𝓜 (tables 𝓤 H 𝓜 𝓡 code.env)) (κs .0) (qs .0) (a .0 .ptr .0) (a .0 .ptr .1) (a .0 .name) (a .0 .now) (a .1 .0) (are .0) (are .1 .0 .1)))

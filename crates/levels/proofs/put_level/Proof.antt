@@ -27,22 +27,20 @@ use types.Run.{look, store-raw, stop, hop, fld, from, load, lit, unit-lit, of-op
 use denote.RattleType.{owns}
 use denote.Shadow.{pureI}
 use denote.Laws.{Is, shows}
-use denote.Plain.{uint-vals, uint-tells}
 use denote.Builtin.{usize}
-use denote.Slice.{sliceVal, MutSlice, heres, Room, slice-vals, mut-slice-tells, mut-slice-lawful, at-slice, codedHoleys}
+use denote.Slice.{sliceVal, MutSlice, heres, Room, mut-slice-lawful, at-slice, codedHoleys}
 use denote.Lend.{Held}
 use denote.Index.{place, place-is, elem-out, elem-put, opens-slice, closes-slice}
-use denote.Signature.{plain}
 use denote.Steps.{nothing, owned}
 use denote.Triple.Entry.{Vals, onEntry}
-use denote.Triple.Walked.{says, Stays, stay-slice, stay-dropped, goes-slice, goes-dropped, walkOf, ends-at}
-use denote.Exit.{yes}
+use denote.Triple.Walked.{says, Stays, walkOf, ends-at}
 use denote.Ref.{RefT}
 use Rattle.meaning.specs.declared.Level.{Level}
 use Rattle.levels.proofs.Locals.{Blocks, placed, lying, dying, freed}
 use Rattle.levels.proofs.Lines.{var, count, lets, begins}
+use Rattle.levels.proofs.Listed.{Parameter, of-unique, of-number, of-value, stays, spells, tellss, all-go}
 use Rattle.levels.proofs.Meets.{proved}
-use Rattle.levels.proofs.Element.{record-type, machine, machines, Fits, tells, makes, typed}
+use Rattle.levels.proofs.Element.{level-value, record-type, machine, machines, Fits, tells, makes, typed}
 use Rattle.levels.proofs.put_level.Key.{name as #levels·put-level}
 use Rattle.levels.proofs.put_level as put-level
 use Rattle.levels.proofs.put_level.Statement as stated
@@ -50,8 +48,11 @@ use Rattle.levels.proofs.put_level.Code as code
 use Rattle.levels.proofs.put_level.Code.Mir as body
 
 -- the slice is still owned at exit, at its last list; nothing is had of the numbers
+abbrev ps : List (Parameter 1)
+ps = of-unique 0 tt record-type ∷ of-number w64 ∷ of-value level-value (λ x f. refl) ∷ []
+
 abbrev stayed : Stays (put-level.ended .signature .params) (put-level.ended .kept)
-stayed = (stay-slice (0 ∷ []) tt (plain (λ _. record-type)), (stay-dropped (plain (λ _. usize)) yes, (stay-dropped (plain (λ _. record-type)) yes, tt)))
+stayed = stays ps
 
 module _ {M : Type 1} (𝓤 : URA M) (H : Heap 𝓤) (A : Atoms 𝓤) (W : Given 𝓤 H A) (at-mem : Memory → SProp 𝓤) (run : Routine → Fun 𝓤) (𝓣 : Tables 𝓤 H) (κ : Lft) (q : Share) (b o : ℕ) (γ : GName) (ys : List Level) (i : ℕ) (d : Level) where
   abbrev at-list : List Level → RefT (List Level)
@@ -127,6 +128,5 @@ unfolding code.routine tablesOf
 put-level-spec 𝓤 H 𝓜 𝓖 𝓡 =
     let W = givenOf 𝓤 H 𝓜 𝓖 in
     proved 𝓤 H 𝓜 𝓖 𝓡 put-level.ended (put-level.clauses 𝓤 H (𝓖 .A) (𝓜 .mem) (𝓡 .run)) stayed code.function code.env #levels·put-level (code.unfolded 𝓤 H 𝓜 𝓡)
-    (goes-slice 𝓤 H (𝓖 .A) W 1 0 tt (plain (λ _. record-type)), (goes-dropped 𝓤 H (𝓖 .A) W 1 (plain (λ _. usize)) yes (λ κs x f. refl), (goes-dropped 𝓤 H (𝓖 .A) W 1 (plain (λ _. record-type)) yes (λ κs x f. refl), tt)))
-    (λ κs. (slice-vals, (uint-vals w64, (machines, tt)))) (λ κs. (mut-slice-tells (named 0) (κs .0) record-type, (uint-tells w64, (tells, tt))))
+    (all-go 𝓤 H (𝓖 .A) W ps) (spells ps) (tellss ps)
     (λ κs qs bounds a g are. via 𝓤 _ (fst∗ 𝓤 _ (emp 𝓤)) (walk 𝓤 H (𝓖 .A) W (𝓜 .mem) (𝓡 .run) (tablesOf 𝓤 H 𝓜 (tables 𝓤 H 𝓜 𝓡 code.env)) (κs .0) (qs .0) (a .0 .ptr .0) (a .0 .ptr .1) (a .0 .name) (a .0 .now) (a .1 .0) (a .1 .1 .0) (are .0) (are .1 .0 .1) (are .1 .1 .0)))

@@ -22,15 +22,14 @@ use denote.Laws.{Is}
 use denote.Plain.{uint-makes}
 use denote.Builtin.{usize}
 use denote.Ref.{RefT}
-use denote.Slice.{sliceVal, ShrSlice, slice-vals, shr-slice-tells, shr-slice-lawful}
-use denote.Signature.{plain, shrSliceOf}
+use denote.Slice.{sliceVal, ShrSlice, shr-slice-lawful}
 use denote.Triple.Entry.{onEntry}
-use denote.Triple.Walked.{says, Stays, stay-dropped, goes-dropped, walkOf, ends-at}
-use denote.Exit.{yes}
+use denote.Triple.Walked.{says, Stays, walkOf, ends-at}
 use Rattle.meaning.specs.declared.Level.{Level}
 use Rattle.levels.proofs.Locals.{placed, freed}
 use Rattle.levels.proofs.Lines.{count, lets, begins}
-use Rattle.levels.proofs.Parameters.{Kind, shared, holds, leaves}
+use Rattle.levels.proofs.Listed.{Parameter, of-shared, kinds, stays, rows, spells, tellss, all-go}
+use Rattle.levels.proofs.Parameters.{holds, leaves}
 use Rattle.levels.proofs.Loans.{Shown}
 use Rattle.levels.proofs.Element.{record-type}
 use Rattle.levels.proofs.Meets.{proved}
@@ -39,11 +38,11 @@ use Rattle.levels.proofs.room as room
 use Rattle.levels.proofs.room.Statement as stated
 use Rattle.levels.proofs.room.Code as code
 
-abbrev kinds : List Kind
-kinds = shared ∷ []
+abbrev ps : List (Parameter 1)
+ps = of-shared 0 tt record-type ∷ []
 
 abbrev stayed : Stays (room.ended .signature .params) (room.ended .kept)
-stayed = (stay-dropped (shrSliceOf (0 ∷ []) tt (plain (λ _. record-type))) yes, tt)
+stayed = stays ps
 
 module _ {M : Type 1} (𝓤 : URA M) (H : Heap 𝓤) (A : Atoms 𝓤) (W : Given 𝓤 H A) (at-mem : Memory → SProp 𝓤) (run : Routine → Fun 𝓤) (𝓣 : Tables 𝓤 H) (κ : Lft) (q : Share) (a : RefT (List Level)) where
   abbrev v : Val
@@ -59,17 +58,17 @@ module _ {M : Type 1} (𝓤 : URA M) (H : Heap 𝓤) (A : Atoms 𝓤) (W : Given
   Levels = ‵ (Shown record-type κ q (a .name) (a .ptr .0) (a .ptr .1) n (a .now))
 
   abbrev taken : List RattleType
-  taken = ShrSlice (named 0) κ record-type ∷ []
+  taken = rows ps (κ, tt)
 
   exits : n < 2 ^ 64 → ent 𝓤 (⋆ 𝓤 H A (Levels ∷ [])) (Post (vint w64 n))
   exits fits =
       qed W (Levels ∷ []) ∵
       suffices ! _ (ends-at 𝓤 H A room.ended stayed (room.clauses 𝓤 H A at-mem run) W (((κ, tt), (q, tt), tt, (a, tt), (v ∷ [], tt)), tt) (vint w64 n) n (tt, tt) (tt, tt)) $ says ! refl $
-      by ! (leaves 𝓤 H A W kinds taken 1 tt (κ, tt) (q, tt) (a, tt) (v ∷ [], tt) (usize .own n (vint w64 n ∷ [])) (uint-makes 𝓤 H A W w64 n (vint w64 n ∷ []) (refl, fits)))
+      by ! (leaves 𝓤 H A W (kinds ps) taken 1 tt (κ, tt) (q, tt) (a, tt) (v ∷ [], tt) (usize .own n (vint w64 n ∷ [])) (uint-makes 𝓤 H A W w64 n (vint w64 n ∷ []) (refl, fits)))
 
   walk : Is (ShrSlice (named 0) κ record-type) a (v ∷ []) → ent 𝓤 (onEntry 𝓤 H A room.signature (κ, tt) (q, tt) (a, tt) (v ∷ [], tt)) (WpFn 𝓤 H (𝓣 .C) (𝓣 .Λ) code.function (v ∷ []) Post)
   walk p =
-      via 𝓤 (⋆ 𝓤 H A (Levels ∷ [])) (holds 𝓤 H A W kinds taken 1 tt (κ, tt) (q, tt) (a, tt) (v ∷ [], tt)) (qed W (Levels ∷ []) ∵
+      via 𝓤 (⋆ 𝓤 H A (Levels ∷ [])) (holds 𝓤 H A W (kinds ps) taken 1 tt (κ, tt) (q, tt) (a, tt) (v ∷ [], tt)) (qed W (Levels ∷ []) ∵
       begins ! (𝓣 .C) (𝓣 .Λ) code.function (v ∷ []) _ (shr-slice-lawful 𝓤 H A W (named 0) κ record-type .typed a (v ∷ []) p .0, tt) (λ bs.
       lets ! (of-opd ! (count ! refl refl refl)) refl (tt, record { fits = p .0 .1 .0 }) $
       returns ! (look ! 0 refl) $ freed W (placed 𝓤 H (code.function .locals) bs) (some _ ∷ some _ ∷ []) $ by ! (exits (p .0 .1 .0))))
@@ -79,6 +78,5 @@ unfolding code.routine tablesOf
 room-spec 𝓤 H 𝓜 𝓖 𝓡 =
     let W = givenOf 𝓤 H 𝓜 𝓖 in
     proved 𝓤 H 𝓜 𝓖 𝓡 room.ended (room.clauses 𝓤 H (𝓖 .A) (𝓜 .mem) (𝓡 .run)) stayed code.function code.env #levels·room (code.unfolded 𝓤 H 𝓜 𝓡)
-    (goes-dropped 𝓤 H (𝓖 .A) W 1 (shrSliceOf (0 ∷ []) tt (plain (λ _. record-type))) yes (λ κs x f. refl), tt)
-    (λ κs. (slice-vals, tt)) (λ κs. (shr-slice-tells (named 0) (κs .0) record-type, tt))
+    (all-go 𝓤 H (𝓖 .A) W ps) (spells ps) (tellss ps)
     (λ κs qs bounds a g are. via 𝓤 _ (fst∗ 𝓤 _ (emp 𝓤)) (walk 𝓤 H (𝓖 .A) W (𝓜 .mem) (𝓡 .run) (tablesOf 𝓤 H 𝓜 (tables 𝓤 H 𝓜 𝓡 code.env)) (κs .0) (qs .0) (a .0) (are .0)))

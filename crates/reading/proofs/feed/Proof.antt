@@ -19,25 +19,23 @@ use contract.Running.{givenOf, tables, tablesOf}
 use types.Kit.{Given, Item, ‵, ⋆, _$_, _∵_, !, qed, by, suffices}
 use types.Run.{look, no-more, and-then, of-opd, returns}
 use denote.RattleType.{RattleType}
-use denote.Laws.{Is, all-typed}
-use denote.Plain.{uint-vals, uint-tells, uint-lawful}
-use denote.Builtin.{u8, u16, u32, u64}
+use denote.Laws.{Is, all-typed, valss}
+use denote.Builtin.{u8, u16, u64}
 use denote.Ref.{at-last}
-use denote.Slice.{sliceVal, MutSlice, ShrSlice, slice-vals, mut-slice-tells, shr-slice-tells, mut-slice-lawful, shr-slice-lawful}
-use denote.Signature.{plain, shrSliceOf}
+use denote.Slice.{sliceVal, MutSlice, ShrSlice, slice-vals}
 use denote.Triple.Entry.{Args, Vals, onEntry}
 use denote.Triple.Spec.{Meets, tripleOf}
 use denote.Triple.Table.{cited}
-use denote.Triple.Walked.{says, Stays, stay-slice, stay-dropped, goes-slice, goes-dropped, walkOf, ends-at}
-use denote.Exit.{yes}
+use denote.Triple.Walked.{says, Stays, walkOf, ends-at}
 use Rattle.meaning.specs.declared.Level.{Level}
 use Rattle.meaning.specs.declared.Reading.{Reading}
 use Rattle.levels.proofs.Values.{FitsIn, storable}
 use Rattle.levels.proofs.Locals.{placed, freed}
 use Rattle.levels.proofs.Lines.{var, count, pointer, bundle, lets, lands-in, begins}
-use Rattle.levels.proofs.Parameters.{Kind, by-value, shared, unique, holds, leaves}
+use Rattle.levels.proofs.Listed.{Parameter, of-shared, of-unique, of-number, of-value, kinds, stays, rows, spells, tellss, lawfuls, all-go}
+use Rattle.levels.proofs.Parameters.{holds, leaves}
 use Rattle.levels.proofs.Meets.{proved}
-use Rattle.levels.proofs.Element.{record-type, tells, makes}
+use Rattle.levels.proofs.Element.{record-type, makes}
 use Rattle.levels.proofs.InPlace.{calls-by}
 use Rattle.levels.proofs.Loans.{Kept, Shown, relent, reshown, shown}
 use Rattle.meaning.specs.Calls.{feedCall}
@@ -76,11 +74,11 @@ use Rattle.reading.proofs.feed as feed
 use Rattle.reading.proofs.feed.Statement as stated
 use Rattle.reading.proofs.feed.Code as code
 
-abbrev kinds : List Kind
-kinds = shared ∷ shared ∷ by-value ∷ by-value ∷ unique ∷ shared ∷ []
+abbrev ps : List (Parameter 4)
+ps = of-shared 0 tt u8 ∷ of-shared 1 tt u64 ∷ of-number w32 ∷ of-value reading-value (λ x f. refl) ∷ of-unique 2 tt record-type ∷ of-shared 3 tt u16 ∷ []
 
 abbrev stayed : Stays (feed.ended .signature .params) (feed.ended .kept)
-stayed = (stay-dropped (shrSliceOf (0 ∷ []) tt (plain (λ _. u8))) yes, (stay-dropped (shrSliceOf (1 ∷ []) tt (plain (λ _. u64))) yes, (stay-dropped (plain (λ _. u32)) yes, (stay-dropped (plain (λ _. reading-value .row)) yes, (stay-slice (2 ∷ []) tt (plain (λ _. record-type)), (stay-dropped (shrSliceOf (3 ∷ []) tt (plain (λ _. u16))) yes, tt))))))
+stayed = stays ps
 
 module _ {M : Type 1} (𝓤 : URA M) (H : Heap 𝓤) (A : Atoms 𝓤) (W : Given 𝓤 H A) (at-mem : Memory → SProp 𝓤) (run : Routine → Fun 𝓤) (𝓣 : Tables 𝓤 H) (κs : Lfts 4) (qs : Shares 4) (a : Args feed.signature κs) where
   abbrev file : List ℕ
@@ -102,10 +100,10 @@ module _ {M : Type 1} (𝓤 : URA M) (H : Heap 𝓤) (A : Atoms 𝓤) (W : Given
   events = a .1 .1 .1 .1 .1 .0 .now
 
   abbrev at : Vals feed.signature κs
-  at = (slice-vals (a .0), (slice-vals (a .1 .0), (vint w32 ceiling ∷ [], (reading-value .val r ∷ [], (slice-vals (a .1 .1 .1 .1 .0), (slice-vals (a .1 .1 .1 .1 .1 .0), tt))))))
+  at = valss (rows ps κs) (spells ps κs) a
 
   abbrev taken : List RattleType
-  taken = ShrSlice (named 0) (κs .0) u8 ∷ ShrSlice (named 1) (κs .1 .0) u64 ∷ u32 ∷ reading-value .row ∷ MutSlice (named 2) (κs .1 .1 .0) record-type ∷ ShrSlice (named 3) (κs .1 .1 .1 .0) u16 ∷ []
+  taken = rows ps κs
 
   abbrev Post : Val → SProp 𝓤
   Post = walkOf 𝓤 H A feed.ended stayed (feed.clauses 𝓤 H A at-mem run) .post ((κs, qs, tt, a, at), tt)
@@ -126,7 +124,7 @@ module _ {M : Type 1} (𝓤 : URA M) (H : Heap 𝓤) (A : Atoms 𝓤) (W : Given
   exits x zs same said fits =
       qed W (File ∷ Book ∷ Levels zs ∷ Events ∷ []) ∵
       suffices ! _ (ends-at 𝓤 H A feed.ended stayed (feed.clauses 𝓤 H A at-mem run) W ((κs, qs, tt, a, at), tt) (fed-value .val x) x (tt, (tt, (tt, (tt, (zs, (tt, tt)))))) (tt, (tt, (tt, (tt, (same, (tt, tt))))))) $ says ! said $
-      by ! (leaves 𝓤 H A W kinds taken 4 tt κs qs (a .0, (a .1 .0, (ceiling, (r, (at-last (a .1 .1 .1 .1 .0) zs, (a .1 .1 .1 .1 .1 .0, tt)))))) at (fed-value .row .own x (fed-value .val x ∷ [])) (fed-value .makes M 𝓤 H A x (fed-value .val x ∷ []) fits))
+      by ! (leaves 𝓤 H A W (kinds ps) taken 4 tt κs qs (a .0, (a .1 .0, (ceiling, (r, (at-last (a .1 .1 .1 .1 .0) zs, (a .1 .1 .1 .1 .1 .0, tt)))))) at (fed-value .row .own x (fed-value .val x ∷ [])) (fed-value .makes M 𝓤 H A x (fed-value .val x ∷ []) fits))
 
   module _ (admit-known : Meets 𝓤 H A admit.signature (𝓣 .C #admit) (admit.spec 𝓤 H A at-mem run)) (rule-in-known : Meets 𝓤 H A rule-in.signature (𝓣 .C #rule-in) (rule-in.spec 𝓤 H A at-mem run)) (started-known : Meets 𝓤 H A started.signature (𝓣 .C #started) (started.spec 𝓤 H A at-mem run)) (feed-loop-known : Meets 𝓤 H A feed-loop.signature (𝓣 .C #feed-loop) (feed-loop.spec 𝓤 H A at-mem run)) (fed-of-known : Meets 𝓤 H A fed-of.signature (𝓣 .C #fed-of) (fed-of.spec 𝓤 H A at-mem run))
       (p0 : Is (ShrSlice (named 0) (κs .0) u8) (a .0) (slice-vals (a .0))) (p1 : Is (ShrSlice (named 1) (κs .1 .0) u64) (a .1 .0) (slice-vals (a .1 .0))) (p2 : ceiling < 2 ^ 32) (p3 : FitsIn reading-value r) (p4 : Is (MutSlice (named 2) (κs .1 .1 .0) record-type) (a .1 .1 .1 .1 .0) (slice-vals (a .1 .1 .1 .1 .0))) (p5 : Is (ShrSlice (named 3) (κs .1 .1 .1 .0) u16) (a .1 .1 .1 .1 .1 .0) (slice-vals (a .1 .1 .1 .1 .1 .0))) where
@@ -135,9 +133,9 @@ module _ {M : Type 1} (𝓤 : URA M) (H : Heap 𝓤) (A : Atoms 𝓤) (W : Given
 
     walk : ent 𝓤 (onEntry 𝓤 H A feed.signature κs qs a at) (WpFn 𝓤 H (𝓣 .C) (𝓣 .Λ) code.function (sliceVal (a .0 .ptr) (length file) ∷ sliceVal (a .1 .0 .ptr) (length book) ∷ vint w32 ceiling ∷ reading-value .val r ∷ sliceVal (a .1 .1 .1 .1 .0 .ptr) (length levels) ∷ sliceVal (a .1 .1 .1 .1 .1 .0 .ptr) (length events) ∷ []) Post)
     walk =
-        via 𝓤 (⋆ 𝓤 H A (File ∷ Book ∷ Levels levels ∷ Events ∷ [])) (holds 𝓤 H A W kinds taken 4 tt κs qs a at) (qed W (File ∷ Book ∷ Levels levels ∷ Events ∷ []) ∵
+        via 𝓤 (⋆ 𝓤 H A (File ∷ Book ∷ Levels levels ∷ Events ∷ [])) (holds 𝓤 H A W (kinds ps) taken 4 tt κs qs a at) (qed W (File ∷ Book ∷ Levels levels ∷ Events ∷ []) ∵
         begins ! (𝓣 .C) (𝓣 .Λ) code.function (sliceVal (a .0 .ptr) (length file) ∷ sliceVal (a .1 .0 .ptr) (length book) ∷ vint w32 ceiling ∷ reading-value .val r ∷ sliceVal (a .1 .1 .1 .1 .0 .ptr) (length levels) ∷ sliceVal (a .1 .1 .1 .1 .1 .0 .ptr) (length events) ∷ []) _
-        (all-typed 𝓤 H A taken (shr-slice-lawful 𝓤 H A W (named 0) (κs .0) u8, (shr-slice-lawful 𝓤 H A W (named 1) (κs .1 .0) u64, (uint-lawful 𝓤 H A W w32, (reading-value .lawful M 𝓤 H A W, (mut-slice-lawful 𝓤 H A W (named 2) (κs .1 .1 .0) record-type, (shr-slice-lawful 𝓤 H A W (named 3) (κs .1 .1 .1 .0) u16, tt)))))) a at (p0, (p1, ((refl, p2), (p3, (p4, (p5, tt))))))) (λ bs.
+        (all-typed 𝓤 H A taken (lawfuls 𝓤 H A W ps κs) a at (p0, (p1, ((refl, p2), (p3, (p4, (p5, tt))))))) (λ bs.
         -- file, book, levels and events stand at 17 to 20
         lets ! (pointer ! refl refl refl) refl (tt, tt) $ lets ! (bundle ! (var ! refl) (count ! refl refl refl)) refl (tt, (tt, (record { fits = p4 .0 .1 .0 }, tt))) $
         calls-by ! 𝓣 (17 ∷ 18 ∷ 19 ∷ []) refl (admit-by W at-mem run 𝓣 file book r levels admit-known (shown W (κs .0) (qs .0) (a .0 .name)) (shown W (κs .1 .0) (qs .1 .0) (a .1 .0 .name)) (reshown W (κs .1 .1 .0) (qs .1 .1 .0) (a .1 .1 .1 .1 .0 .name)) p3) (and-then ! (var ! refl) (and-then ! (var ! refl) (and-then ! (var ! refl) (and-then ! (var ! refl) (no-more !))))) (λ checked. lands-in ! refl (storable checked-value W (checked .answer) (checked .fits)) $
@@ -155,9 +153,7 @@ unfolding code.routine tablesOf
 feed-spec 𝓤 H 𝓜 𝓖 𝓡 =
     let W = givenOf 𝓤 H 𝓜 𝓖 in
     proved 𝓤 H 𝓜 𝓖 𝓡 feed.ended (feed.clauses 𝓤 H (𝓖 .A) (𝓜 .mem) (𝓡 .run)) stayed code.function code.env #feed (code.unfolded 𝓤 H 𝓜 𝓡)
-    (goes-dropped 𝓤 H (𝓖 .A) W 4 (shrSliceOf (0 ∷ []) tt (plain (λ _. u8))) yes (λ κs x f. refl), (goes-dropped 𝓤 H (𝓖 .A) W 4 (shrSliceOf (1 ∷ []) tt (plain (λ _. u64))) yes (λ κs x f. refl), (goes-dropped 𝓤 H (𝓖 .A) W 4 (plain (λ _. u32)) yes (λ κs x f. refl), (goes-dropped 𝓤 H (𝓖 .A) W 4 (plain (λ _. reading-value .row)) yes (λ κs x f. refl), (goes-slice 𝓤 H (𝓖 .A) W 4 2 tt (plain (λ _. record-type)), (goes-dropped 𝓤 H (𝓖 .A) W 4 (shrSliceOf (3 ∷ []) tt (plain (λ _. u16))) yes (λ κs x f. refl), tt))))))
-    (λ κs. (slice-vals, (slice-vals, (uint-vals w32, (λ x. reading-value .val x ∷ [], (slice-vals, (slice-vals, tt)))))))
-    (λ κs. (shr-slice-tells (named 0) (κs .0) u8, (shr-slice-tells (named 1) (κs .1 .0) u64, (uint-tells w32, (reading-value .tells, (mut-slice-tells (named 2) (κs .1 .1 .0) record-type, (shr-slice-tells (named 3) (κs .1 .1 .1 .0) u16, tt)))))))
+    (all-go 𝓤 H (𝓖 .A) W ps) (spells ps) (tellss ps)
     (λ κs qs bounds a g are. via 𝓤 _ (fst∗ 𝓤 _ (emp 𝓤)) (walk 𝓤 H (𝓖 .A) W (𝓜 .mem) (𝓡 .run) (tablesOf 𝓤 H 𝓜 (tables 𝓤 H 𝓜 𝓡 code.env)) κs qs a
     (cited 𝓤 H (tripleOf 𝓤 H (𝓖 .A) admit.signature (admit.spec 𝓤 H (𝓖 .A) (𝓜 .mem) (𝓡 .run))) 𝓜 𝓡 code.env #admit admit-def.routine code.calls-reading·checking·admit (admit-thm.met 𝓤 H 𝓜 𝓖 𝓡))
     (cited 𝓤 H (tripleOf 𝓤 H (𝓖 .A) rule-in.signature (rule-in.spec 𝓤 H (𝓖 .A) (𝓜 .mem) (𝓡 .run))) 𝓜 𝓡 code.env #rule-in rule-in-def.routine code.calls-reading·checking·rule-in (rule-in-thm.met 𝓤 H 𝓜 𝓖 𝓡))

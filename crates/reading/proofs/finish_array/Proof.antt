@@ -20,30 +20,29 @@ use contract.Running.{givenOf, tables, tablesOf}
 use types.Kit.{Given, Item, ‵, ⋆, _$_, _∵_, !, qed, by, suffices}
 use types.Run.{look, no-more, and-then, of-opd, stop, from, addr, returns}
 use denote.RattleType.{RattleType}
-use denote.Laws.{Is, all-typed}
-use denote.Array.{Array, array-tells, array-lawful}
+use denote.Laws.{Is, all-typed, valss}
+use denote.Array.{array-lawful}
 use denote.Builtin.{u8, u64}
-use denote.Slice.{sliceVal, ShrSlice, slice-vals, shr-slice-tells, shr-slice-lawful}
-use denote.Signature.{plain, shrSliceOf}
+use denote.Slice.{sliceVal, ShrSlice, slice-vals}
 use denote.Triple.Entry.{Args, Vals, onEntry}
 use denote.Triple.Spec.{Meets, tripleOf}
 use denote.Triple.Table.{cited}
-use denote.Triple.Walked.{says, Stays, stay-dropped, goes-dropped, walkOf, ends-at}
-use denote.Exit.{yes}
+use denote.Triple.Walked.{says, Stays, walkOf, ends-at}
 use Rattle.meaning.specs.declared.Level.{Level}
 use Rattle.meaning.specs.declared.Reading.{Reading}
 use Rattle.levels.proofs.Values.{FitsIn, storable}
 use Rattle.levels.proofs.Locals.{placed, freed}
 use Rattle.levels.proofs.Lines.{var, big, bundle, lets, lands-in, begins}
-use Rattle.levels.proofs.Parameters.{Kind, by-value, shared, holds, leaves}
+use Rattle.levels.proofs.Listed.{Parameter, of-shared, of-value, of-levels, kinds, stays, rows, spells, tellss, lawfuls, all-go}
+use Rattle.levels.proofs.Parameters.{holds, leaves}
 use Rattle.levels.proofs.Meets.{proved}
-use Rattle.levels.proofs.Element.{record-type, machine, machines, tells, makes}
+use Rattle.levels.proofs.Element.{record-type, machine, tells, makes, level-value}
 use Rattle.levels.proofs.ArrayLoans.{array-val, Fine, shown-array}
 use Rattle.levels.proofs.InPlace.{calls-by}
 use Rattle.levels.proofs.Loans.{Shown, shown}
 use Rattle.meaning.specs.Calls.{endSays, finishCall}
 use Rattle.meaning.specs.declared.End.{End}
-use Rattle.reading.proofs.Passed.{level-value, reading-value}
+use Rattle.reading.proofs.Passed.{reading-value}
 use Rattle.reading.proofs.Called.{end-value, finish-by}
 use Rattle.meaning.proofs.Level.Laws as L′
 use mir.Syntax.{tyArray}
@@ -58,11 +57,11 @@ use Rattle.reading.proofs.finish_array as finish-array
 use Rattle.reading.proofs.finish_array.Statement as stated
 use Rattle.reading.proofs.finish_array.Code as code
 
-abbrev kinds : List Kind
-kinds = shared ∷ shared ∷ by-value ∷ by-value ∷ []
+abbrev ps : List (Parameter 2)
+ps = of-shared 0 tt u8 ∷ of-shared 1 tt u64 ∷ of-value reading-value (λ x f. refl) ∷ of-levels 1024 ∷ []
 
 abbrev stayed : Stays (finish-array.ended .signature .params) (finish-array.ended .kept)
-stayed = (stay-dropped (shrSliceOf (0 ∷ []) tt (plain (λ _. u8))) yes, (stay-dropped (shrSliceOf (1 ∷ []) tt (plain (λ _. u64))) yes, (stay-dropped (plain (λ _. reading-value .row)) yes, (stay-dropped (plain (λ _. Array record-type 1024)) yes, tt))))
+stayed = stays ps
 
 module _ {M : Type 1} (𝓤 : URA M) (H : Heap 𝓤) (A : Atoms 𝓤) (W : Given 𝓤 H A) (at-mem : Memory → SProp 𝓤) (run : Routine → Fun 𝓤) (𝓣 : Tables 𝓤 H) (κs : Lfts 2) (qs : Shares 2) (a : Args finish-array.signature κs) where
   abbrev file : List ℕ
@@ -78,10 +77,10 @@ module _ {M : Type 1} (𝓤 : URA M) (H : Heap 𝓤) (A : Atoms 𝓤) (W : Given
   levels = a .1 .1 .1 .0
 
   abbrev at : Vals finish-array.signature κs
-  at = (slice-vals (a .0), (slice-vals (a .1 .0), (reading-value .val r ∷ [], (array-val record-type machine levels ∷ [], tt))))
+  at = valss (rows ps κs) (spells ps κs) a
 
   abbrev taken : List RattleType
-  taken = ShrSlice (named 0) (κs .0) u8 ∷ ShrSlice (named 1) (κs .1 .0) u64 ∷ reading-value .row ∷ Array record-type 1024 ∷ []
+  taken = rows ps κs
 
   abbrev Post : Val → SProp 𝓤
   Post = walkOf 𝓤 H A finish-array.ended stayed (finish-array.clauses 𝓤 H A at-mem run) .post ((κs, qs, tt, a, at), tt)
@@ -96,7 +95,7 @@ module _ {M : Type 1} (𝓤 : URA M) (H : Heap 𝓤) (A : Atoms 𝓤) (W : Given
   exits x said fits =
       qed W (File ∷ Book ∷ []) ∵
       suffices ! _ (ends-at 𝓤 H A finish-array.ended stayed (finish-array.clauses 𝓤 H A at-mem run) W ((κs, qs, tt, a, at), tt) (end-value .val x) x (tt, (tt, (tt, (tt, tt)))) (tt, (tt, (tt, (tt, tt))))) $ says ! said $
-      by ! (leaves 𝓤 H A W kinds taken 2 tt κs qs (a .0, (a .1 .0, (r, (levels, tt)))) at (end-value .row .own x (end-value .val x ∷ [])) (end-value .makes M 𝓤 H A x (end-value .val x ∷ []) fits))
+      by ! (leaves 𝓤 H A W (kinds ps) taken 2 tt κs qs (a .0, (a .1 .0, (r, (levels, tt)))) at (end-value .row .own x (end-value .val x ∷ [])) (end-value .makes M 𝓤 H A x (end-value .val x ∷ []) fits))
 
   module _ (finish-known : Meets 𝓤 H A finish.signature (𝓣 .C #finish) (finish.spec 𝓤 H A at-mem run))
       (p0 : Is (ShrSlice (named 0) (κs .0) u8) (a .0) (slice-vals (a .0))) (p1 : Is (ShrSlice (named 1) (κs .1 .0) u64) (a .1 .0) (slice-vals (a .1 .0))) (p2 : FitsIn reading-value r) (p3 : Fine record-type machine 1024 levels) where
@@ -105,9 +104,9 @@ module _ {M : Type 1} (𝓤 : URA M) (H : Heap 𝓤) (A : Atoms 𝓤) (W : Given
 
     walk : ent 𝓤 (onEntry 𝓤 H A finish-array.signature κs qs a at) (WpFn 𝓤 H (𝓣 .C) (𝓣 .Λ) code.function (sliceVal (a .0 .ptr) (length file) ∷ sliceVal (a .1 .0 .ptr) (length book) ∷ reading-value .val r ∷ array-val record-type machine levels ∷ []) Post)
     walk =
-        via 𝓤 (⋆ 𝓤 H A (File ∷ Book ∷ [])) (holds 𝓤 H A W kinds taken 2 tt κs qs a at) (qed W (File ∷ Book ∷ []) ∵
+        via 𝓤 (⋆ 𝓤 H A (File ∷ Book ∷ [])) (holds 𝓤 H A W (kinds ps) taken 2 tt κs qs a at) (qed W (File ∷ Book ∷ []) ∵
         begins ! (𝓣 .C) (𝓣 .Λ) code.function (sliceVal (a .0 .ptr) (length file) ∷ sliceVal (a .1 .0 .ptr) (length book) ∷ reading-value .val r ∷ array-val record-type machine levels ∷ []) _
-        (all-typed 𝓤 H A taken (shr-slice-lawful 𝓤 H A W (named 0) (κs .0) u8, (shr-slice-lawful 𝓤 H A W (named 1) (κs .1 .0) u64, (reading-value .lawful M 𝓤 H A W, (array-lawful 𝓤 H A W record-type (level-value .lawful M 𝓤 H A W) 1024, tt)))) a at (p0, (p1, (p2, (p3, tt))))) (λ bs.
+        (all-typed 𝓤 H A taken (lawfuls 𝓤 H A W ps κs) a at (p0, (p1, (p2, (p3, tt))))) (λ bs.
         -- file and book stand at 9 and 10, and the array at its own place, 5
         lets ! (of-opd ! (var ! refl)) refl (array-typed levels p3) $
         lets ! (addr ! (from ! (stop !))) refl (tt, tt) $ lets ! (bundle ! (var ! refl) (big ! (lit< tt))) refl (tt, (tt, (record { fits = lit< tt }, tt))) $
@@ -119,9 +118,7 @@ unfolding code.routine tablesOf
 finish-array-spec 𝓤 H 𝓜 𝓖 𝓡 =
     let W = givenOf 𝓤 H 𝓜 𝓖 in
     proved 𝓤 H 𝓜 𝓖 𝓡 finish-array.ended (finish-array.clauses 𝓤 H (𝓖 .A) (𝓜 .mem) (𝓡 .run)) stayed code.function code.env #finish-array (code.unfolded 𝓤 H 𝓜 𝓡)
-    (goes-dropped 𝓤 H (𝓖 .A) W 2 (shrSliceOf (0 ∷ []) tt (plain (λ _. u8))) yes (λ κs x f. refl), (goes-dropped 𝓤 H (𝓖 .A) W 2 (shrSliceOf (1 ∷ []) tt (plain (λ _. u64))) yes (λ κs x f. refl), (goes-dropped 𝓤 H (𝓖 .A) W 2 (plain (λ _. reading-value .row)) yes (λ κs x f. refl), (goes-dropped 𝓤 H (𝓖 .A) W 2 (plain (λ _. Array record-type 1024)) yes (λ κs x f. refl), tt))))
-    (λ κs. (slice-vals, (slice-vals, (λ x. reading-value .val x ∷ [], (λ ys. array-val record-type machine ys ∷ [], tt)))))
-    (λ κs. (shr-slice-tells (named 0) (κs .0) u8, (shr-slice-tells (named 1) (κs .1 .0) u64, (reading-value .tells, (array-tells record-type machines tells 1024, tt)))))
+    (all-go 𝓤 H (𝓖 .A) W ps) (spells ps) (tellss ps)
     (λ κs qs bounds a g are. via 𝓤 _ (fst∗ 𝓤 _ (emp 𝓤)) (walk 𝓤 H (𝓖 .A) W (𝓜 .mem) (𝓡 .run) (tablesOf 𝓤 H 𝓜 (tables 𝓤 H 𝓜 𝓡 code.env)) κs qs a
     (cited 𝓤 H (tripleOf 𝓤 H (𝓖 .A) finish.signature (finish.spec 𝓤 H (𝓖 .A) (𝓜 .mem) (𝓡 .run))) 𝓜 𝓡 code.env #finish finish-def.routine code.calls-reading·finish (finish-thm.met 𝓤 H 𝓜 𝓖 𝓡))
     (are .0) (are .1 .0) (are .1 .1 .0) (are .1 .1 .1 .0)))

@@ -22,26 +22,25 @@ use types.Kit.{Given, Item, ‵, ⋆, _$_, _∵_, !, qed, by, suffices}
 use types.Part.{whole, sub, look-in}
 use types.Run.{look, neg-lit, no-more, and-then, of-opd, stop, fld, from, load, returns}
 use denote.RattleType.{RattleType}
-use denote.Laws.{Is, all-typed}
+use denote.Laws.{Is, all-typed, valss}
 use denote.Builtin.{u8, u16, u64}
 use denote.Ref.{at-last}
-use denote.Slice.{sliceVal, MutSlice, ShrSlice, slice-vals, mut-slice-tells, shr-slice-tells, mut-slice-lawful, shr-slice-lawful}
-use denote.Signature.{plain, shrSliceOf}
+use denote.Slice.{sliceVal, MutSlice, ShrSlice, slice-vals}
 use denote.Struct.Laws as LL
 use denote.Triple.Entry.{Args, Vals, onEntry}
 use denote.Triple.Spec.{Meets, tripleOf}
 use denote.Triple.Table.{cited}
-use denote.Triple.Walked.{says, Stays, stay-slice, stay-dropped, goes-slice, goes-dropped, walkOf, ends-at}
-use denote.Exit.{yes}
+use denote.Triple.Walked.{says, Stays, walkOf, ends-at}
 use Rattle.meaning.specs.declared.Level.{Level}
 use Rattle.meaning.specs.declared.Reading.{Reading}
 use Rattle.meaning.specs.FullReading.{blank}
 use Rattle.levels.proofs.Values.{FitsIn, storable}
 use Rattle.levels.proofs.Locals.{placed, freed}
 use Rattle.levels.proofs.Lines.{var, count, pointer, bundle, lets, lands-in, begins}
-use Rattle.levels.proofs.Parameters.{Kind, shared, unique, holds, leaves}
+use Rattle.levels.proofs.Listed.{Parameter, of-shared, of-unique, kinds, stays, rows, spells, tellss, lawfuls, all-go}
+use Rattle.levels.proofs.Parameters.{holds, leaves}
 use Rattle.levels.proofs.Meets.{proved}
-use Rattle.levels.proofs.Element.{record-type, makes}
+use Rattle.levels.proofs.Element.{record-type, makes, level-value}
 use Rattle.levels.proofs.InPlace.{calls-by}
 use Rattle.levels.proofs.Loans.{Kept, Shown, relent, reshown, shown}
 use Rattle.levels.proofs.Store.{looks}
@@ -57,7 +56,7 @@ use Rattle.reading.specs.declared.Going.{Going}
 use Rattle.reading.proofs.Going as Go
 use Rattle.reading.proofs.Going.Laws as Go′
 use Rattle.reading.proofs.WholeRead.{begun-by, book-stays, document-goes, document-needs, document-comes}
-use Rattle.reading.proofs.Passed.{level-value, reading-value, rule-value, checked-value, going-value, rule-in-by, top-by}
+use Rattle.reading.proofs.Passed.{reading-value, rule-value, checked-value, going-value, rule-in-by, top-by}
 use Rattle.reading.proofs.Called.{end-value, started-by, feed-loop-by, make-rule-by, fresh-reading-by, end-fed-by}
 use Rattle.reading.proofs.document.make_rule as make-rule
 use Rattle.reading.proofs.document.make_rule.Symbol as make-rule-def
@@ -96,11 +95,11 @@ use Rattle.reading.proofs.read_document as read-document
 use Rattle.reading.proofs.read_document.Statement as stated
 use Rattle.reading.proofs.read_document.Code as code
 
-abbrev kinds : List Kind
-kinds = shared ∷ unique ∷ unique ∷ shared ∷ []
+abbrev ps : List (Parameter 4)
+ps = of-shared 0 tt u8 ∷ of-unique 1 tt u64 ∷ of-unique 2 tt record-type ∷ of-shared 3 tt u16 ∷ []
 
 abbrev stayed : Stays (read-document.ended .signature .params) (read-document.ended .kept)
-stayed = (stay-dropped (shrSliceOf (0 ∷ []) tt (plain (λ _. u8))) yes, (stay-slice (1 ∷ []) tt (plain (λ _. u64)), (stay-slice (2 ∷ []) tt (plain (λ _. record-type)), (stay-dropped (shrSliceOf (3 ∷ []) tt (plain (λ _. u16))) yes, tt))))
+stayed = stays ps
 
 module _ {M : Type 1} (𝓤 : URA M) (H : Heap 𝓤) (A : Atoms 𝓤) (W : Given 𝓤 H A) (at-mem : Memory → SProp 𝓤) (run : Routine → Fun 𝓤) (𝓣 : Tables 𝓤 H) (κs : Lfts 4) (qs : Shares 4) (a : Args read-document.signature κs) where
   abbrev file : List ℕ
@@ -116,10 +115,10 @@ module _ {M : Type 1} (𝓤 : URA M) (H : Heap 𝓤) (A : Atoms 𝓤) (W : Given
   events = a .1 .1 .1 .0 .now
 
   abbrev at : Vals read-document.signature κs
-  at = (slice-vals (a .0), (slice-vals (a .1 .0), (slice-vals (a .1 .1 .0), (slice-vals (a .1 .1 .1 .0), tt))))
+  at = valss (rows ps κs) (spells ps κs) a
 
   abbrev taken : List RattleType
-  taken = ShrSlice (named 0) (κs .0) u8 ∷ MutSlice (named 1) (κs .1 .0) u64 ∷ MutSlice (named 2) (κs .1 .1 .0) record-type ∷ ShrSlice (named 3) (κs .1 .1 .1 .0) u16 ∷ []
+  taken = rows ps κs
 
   abbrev Post : Val → SProp 𝓤
   Post = walkOf 𝓤 H A read-document.ended stayed (read-document.clauses 𝓤 H A at-mem run) .post ((κs, qs, tt, a, at), tt)
@@ -140,7 +139,7 @@ module _ {M : Type 1} (𝓤 : URA M) (H : Heap 𝓤) (A : Atoms 𝓤) (W : Given
   exits x zs same sames said fits =
       qed W (File ∷ Book (madeBook file book) ∷ Levels zs ∷ Events ∷ []) ∵
       suffices ! _ (ends-at 𝓤 H A read-document.ended stayed (read-document.clauses 𝓤 H A at-mem run) W ((κs, qs, tt, a, at), tt) (end-value .val x) x (tt, ((madeBook file book), (zs, (tt, tt)))) (tt, (sames, (same, (tt, tt))))) $ says ! said $
-      by ! (leaves 𝓤 H A W kinds taken 4 tt κs qs (a .0, (at-last (a .1 .0) (madeBook file book), (at-last (a .1 .1 .0) zs, (a .1 .1 .1 .0, tt)))) at (end-value .row .own x (end-value .val x ∷ [])) (end-value .makes M 𝓤 H A x (end-value .val x ∷ []) fits))
+      by ! (leaves 𝓤 H A W (kinds ps) taken 4 tt κs qs (a .0, (at-last (a .1 .0) (madeBook file book), (at-last (a .1 .1 .0) zs, (a .1 .1 .1 .0, tt)))) at (end-value .row .own x (end-value .val x ∷ [])) (end-value .makes M 𝓤 H A x (end-value .val x ∷ []) fits))
 
   module _ (make-rule-known : Meets 𝓤 H A make-rule.signature (𝓣 .C #make-rule) (make-rule.spec 𝓤 H A at-mem run)) (rule-in-known : Meets 𝓤 H A rule-in.signature (𝓣 .C #rule-in) (rule-in.spec 𝓤 H A at-mem run)) (fresh-reading-known : Meets 𝓤 H A fresh-reading.signature (𝓣 .C #fresh-reading) (fresh-reading.spec 𝓤 H A at-mem run)) (started-known : Meets 𝓤 H A started.signature (𝓣 .C #started) (started.spec 𝓤 H A at-mem run)) (feed-loop-known : Meets 𝓤 H A feed-loop.signature (𝓣 .C #feed-loop) (feed-loop.spec 𝓤 H A at-mem run)) (top-place-known : Meets 𝓤 H A top-place.signature (𝓣 .C #top-place) (top-place.spec 𝓤 H A at-mem run)) (level-at-known : Meets 𝓤 H A level-at.signature (𝓣 .C #level-at) (level-at.spec 𝓤 H A at-mem run)) (end-fed-known : Meets 𝓤 H A end-fed.signature (𝓣 .C #end-fed) (end-fed.spec 𝓤 H A at-mem run))
       (p0 : Is (ShrSlice (named 0) (κs .0) u8) (a .0) (slice-vals (a .0))) (p1 : Is (MutSlice (named 1) (κs .1 .0) u64) (a .1 .0) (slice-vals (a .1 .0))) (p2 : Is (MutSlice (named 2) (κs .1 .1 .0) record-type) (a .1 .1 .0) (slice-vals (a .1 .1 .0))) (p3 : Is (ShrSlice (named 3) (κs .1 .1 .1 .0) u16) (a .1 .1 .1 .0) (slice-vals (a .1 .1 .1 .0))) where
@@ -157,9 +156,9 @@ module _ {M : Type 1} (𝓤 : URA M) (H : Heap 𝓤) (A : Atoms 𝓤) (W : Given
     walk : ent 𝓤 (onEntry 𝓤 H A read-document.signature κs qs a at) (WpFn 𝓤 H (𝓣 .C) (𝓣 .Λ) code.function (sliceVal (a .0 .ptr) (length file) ∷ sliceVal (a .1 .0 .ptr) (length book) ∷ sliceVal (a .1 .1 .0 .ptr) (length levels) ∷ sliceVal (a .1 .1 .1 .0 .ptr) (length events) ∷ []) Post)
     unfolding topOf
     walk =
-        via 𝓤 (⋆ 𝓤 H A (File ∷ Book book ∷ Levels levels ∷ Events ∷ [])) (holds 𝓤 H A W kinds taken 4 tt κs qs a at) (qed W (File ∷ Book book ∷ Levels levels ∷ Events ∷ []) ∵
+        via 𝓤 (⋆ 𝓤 H A (File ∷ Book book ∷ Levels levels ∷ Events ∷ [])) (holds 𝓤 H A W (kinds ps) taken 4 tt κs qs a at) (qed W (File ∷ Book book ∷ Levels levels ∷ Events ∷ []) ∵
         begins ! (𝓣 .C) (𝓣 .Λ) code.function (sliceVal (a .0 .ptr) (length file) ∷ sliceVal (a .1 .0 .ptr) (length book) ∷ sliceVal (a .1 .1 .0 .ptr) (length levels) ∷ sliceVal (a .1 .1 .1 .0 .ptr) (length events) ∷ []) _
-        (all-typed 𝓤 H A taken (shr-slice-lawful 𝓤 H A W (named 0) (κs .0) u8, (mut-slice-lawful 𝓤 H A W (named 1) (κs .1 .0) u64, (mut-slice-lawful 𝓤 H A W (named 2) (κs .1 .1 .0) record-type, (shr-slice-lawful 𝓤 H A W (named 3) (κs .1 .1 .1 .0) u16, tt)))) a at (p0, (p1, (p2, (p3, tt))))) (λ bs.
+        (all-typed 𝓤 H A taken (lawfuls 𝓤 H A W ps κs) a at (p0, (p1, (p2, (p3, tt))))) (λ bs.
         -- file, book, levels and events stand at 22 to 25
         lets ! (pointer ! refl refl refl) refl (tt, tt) $ lets ! (bundle ! (var ! refl) (count ! refl refl refl)) refl (tt, (tt, (record { fits = p1 .0 .1 .0 }, tt))) $
         calls-by ! 𝓣 (22 ∷ 23 ∷ []) refl (make-rule-by W at-mem run 𝓣 file book make-rule-known (shown W (κs .0) (qs .0) (a .0 .name)) (relent W (κs .1 .0) (qs .1 .0) (a .1 .0 .name))) (and-then ! (var ! refl) (and-then ! (var ! refl) (no-more !))) (λ checked. lands-in ! refl (storable checked-value W (checked .answer) (checked .fits)) $
@@ -182,9 +181,7 @@ unfolding code.routine tablesOf
 read-document-spec 𝓤 H 𝓜 𝓖 𝓡 =
     let W = givenOf 𝓤 H 𝓜 𝓖 in
     proved 𝓤 H 𝓜 𝓖 𝓡 read-document.ended (read-document.clauses 𝓤 H (𝓖 .A) (𝓜 .mem) (𝓡 .run)) stayed code.function code.env #read-document (code.unfolded 𝓤 H 𝓜 𝓡)
-    (goes-dropped 𝓤 H (𝓖 .A) W 4 (shrSliceOf (0 ∷ []) tt (plain (λ _. u8))) yes (λ κs x f. refl), (goes-slice 𝓤 H (𝓖 .A) W 4 1 tt (plain (λ _. u64)), (goes-slice 𝓤 H (𝓖 .A) W 4 2 tt (plain (λ _. record-type)), (goes-dropped 𝓤 H (𝓖 .A) W 4 (shrSliceOf (3 ∷ []) tt (plain (λ _. u16))) yes (λ κs x f. refl), tt))))
-    (λ κs. (slice-vals, (slice-vals, (slice-vals, (slice-vals, tt)))))
-    (λ κs. (shr-slice-tells (named 0) (κs .0) u8, (mut-slice-tells (named 1) (κs .1 .0) u64, (mut-slice-tells (named 2) (κs .1 .1 .0) record-type, (shr-slice-tells (named 3) (κs .1 .1 .1 .0) u16, tt)))))
+    (all-go 𝓤 H (𝓖 .A) W ps) (spells ps) (tellss ps)
     (λ κs qs bounds a g are. via 𝓤 _ (fst∗ 𝓤 _ (emp 𝓤)) (walk 𝓤 H (𝓖 .A) W (𝓜 .mem) (𝓡 .run) (tablesOf 𝓤 H 𝓜 (tables 𝓤 H 𝓜 𝓡 code.env)) κs qs a
     (cited 𝓤 H (tripleOf 𝓤 H (𝓖 .A) make-rule.signature (make-rule.spec 𝓤 H (𝓖 .A) (𝓜 .mem) (𝓡 .run))) 𝓜 𝓡 code.env #make-rule make-rule-def.routine code.calls-reading·document·make-rule (make-rule-thm.met 𝓤 H 𝓜 𝓖 𝓡))
     (cited 𝓤 H (tripleOf 𝓤 H (𝓖 .A) rule-in.signature (rule-in.spec 𝓤 H (𝓖 .A) (𝓜 .mem) (𝓡 .run))) 𝓜 𝓡 code.env #rule-in rule-in-def.routine code.calls-reading·checking·rule-in (rule-in-thm.met 𝓤 H 𝓜 𝓖 𝓡))

@@ -28,29 +28,28 @@ use contract.Running.{givenOf, tables, tablesOf}
 use types.Kit.{Given, Item, ‵, ⋆, Sq, runs, anyQ, atRet, _$_, _∵_, !, qed, by, rewrite, suffices}
 use types.Run.{Below, look, lit, true-lit, no-more, and-then, of-opd, bin, first, blocks, loops, again, exec, returns}
 use denote.RattleType.{RattleType}
-use denote.Laws.{Is, all-typed}
-use denote.Plain.{uint-vals, uint-tells, uint-lawful, bool-makes}
-use denote.Builtin.{u8, usize, bool}
-use denote.Slice.{sliceVal, ShrSlice, slice-vals, shr-slice-tells, shr-slice-lawful}
-use denote.Signature.{plain, shrSliceOf}
+use denote.Laws.{Is, all-typed, valss}
+use denote.Plain.{bool-makes}
+use denote.Builtin.{bool}
+use denote.Slice.{sliceVal, ShrSlice, slice-vals}
 use denote.Triple.Entry.{Args, Vals, onEntry}
 use denote.Triple.Spec.{Meets, tripleOf}
 use denote.Triple.Table.{cited}
-use denote.Triple.Walked.{says, Stays, stay-dropped, goes-dropped, walkOf, ends-at}
-use denote.Exit.{yes}
+use denote.Triple.Walked.{says, Stays, walkOf, ends-at}
 use Rattle.meaning.specs.declared.Level.{Level}
 use Rattle.meaning.specs.FullReading.{blank}
 use Rattle.meaning.specs.RuleFile.{isState}
 use Rattle.meaning.specs.SkipBook.{allBelow}
 use Rattle.reading.specs.Checks.{abovesIn}
-use Rattle.reading.proofs.Passed.{level-value, still-in-by}
+use Rattle.reading.proofs.Passed.{still-in-by}
 use Rattle.levels.proofs.Values.{storable}
 use Rattle.levels.proofs.Locals.{Blocks, placed, lying, dying, freed, cleared}
 use Rattle.levels.proofs.Lines.{var, lets, sets-last, lands-in, lands-over, begins}
 use Rattle.levels.proofs.Loop.{tests}
-use Rattle.levels.proofs.Parameters.{Kind, by-value, shared, holds, leaves}
+use Rattle.levels.proofs.Listed.{Parameter, of-shared, of-number, kinds, stays, rows, spells, tellss, lawfuls, all-go}
+use Rattle.levels.proofs.Parameters.{holds, leaves}
 use Rattle.levels.proofs.Meets.{proved}
-use Rattle.levels.proofs.Element.{record-type}
+use Rattle.levels.proofs.Element.{record-type, level-value}
 use Rattle.levels.proofs.InPlace.{calls-by}
 use Rattle.levels.proofs.Loans.{Shown, shown}
 use Rattle.levels.proofs.Store.{looks}
@@ -68,11 +67,11 @@ use Rattle.reading.proofs.checking.stored_in.Statement as stated
 use Rattle.reading.proofs.checking.stored_in.Code as code
 use Rattle.reading.proofs.checking.stored_in.Code.Mir as body
 
-abbrev kinds : List Kind
-kinds = shared ∷ by-value ∷ by-value ∷ []
+abbrev ps : List (Parameter 1)
+ps = of-shared 0 tt record-type ∷ of-number w64 ∷ of-number w8 ∷ []
 
 abbrev stayed : Stays (stored-in.ended .signature .params) (stored-in.ended .kept)
-stayed = (stay-dropped (shrSliceOf (0 ∷ []) tt (plain (λ _. record-type))) yes, (stay-dropped (plain (λ _. usize)) yes, (stay-dropped (plain (λ _. u8)) yes, tt)))
+stayed = stays ps
 
 -- one record more
 one-more : (n i : ℕ) (store : List Level) → (abovesIn n i store && isState n (getD store i blank .above)) ≡ abovesIn n (i + 1) store
@@ -90,10 +89,10 @@ module _ {M : Type 1} (𝓤 : URA M) (H : Heap 𝓤) (A : Atoms 𝓤) (W : Given
   states = a .1 .1 .0
 
   abbrev at : Vals stored-in.signature κs
-  at = (slice-vals (a .0), (vint w64 depth ∷ [], (vint w8 states ∷ [], tt)))
+  at = valss (rows ps κs) (spells ps κs) a
 
   abbrev taken : List RattleType
-  taken = ShrSlice (named 0) (κs .0) record-type ∷ usize ∷ u8 ∷ []
+  taken = rows ps κs
 
   abbrev Post : Val → SProp 𝓤
   Post = walkOf 𝓤 H A stored-in.ended stayed (stored-in.clauses 𝓤 H A at-mem run) .post ((κs, qs, tt, a, at), tt)
@@ -105,7 +104,7 @@ module _ {M : Type 1} (𝓤 : URA M) (H : Heap 𝓤) (A : Atoms 𝓤) (W : Given
   exits t e =
       qed W (Levels ∷ []) ∵
       suffices ! _ (ends-at 𝓤 H A stored-in.ended stayed (stored-in.clauses 𝓤 H A at-mem run) W ((κs, qs, tt, a, at), tt) (vbool t) t (tt, (tt, (tt, tt))) (tt, (tt, (tt, tt)))) $ says ! e $
-      by ! (leaves 𝓤 H A W kinds taken 1 tt κs qs a at (bool .own t (vbool t ∷ [])) (bool-makes 𝓤 H A W t (vbool t ∷ []) refl))
+      by ! (leaves 𝓤 H A W (kinds ps) taken 1 tt κs qs a at (bool .own t (vbool t ∷ [])) (bool-makes 𝓤 H A W t (vbool t ∷ []) refl))
 
   -- the loop stands at record i
   abbrev Upto : Type 0
@@ -162,9 +161,9 @@ module _ {M : Type 1} (𝓤 : URA M) (H : Heap 𝓤) (A : Atoms 𝓤) (W : Given
     walk : ent 𝓤 (onEntry 𝓤 H A stored-in.signature κs qs a at) (WpFn 𝓤 H (𝓣 .C) (𝓣 .Λ) code.function (sliceVal (a .0 .ptr) (length store) ∷ vint w64 depth ∷ vint w8 states ∷ []) Post)
     unfolding allBelow
     walk =
-        via 𝓤 (⋆ 𝓤 H A (Levels ∷ [])) (holds 𝓤 H A W kinds taken 1 tt κs qs a at) (qed W (Levels ∷ []) ∵
+        via 𝓤 (⋆ 𝓤 H A (Levels ∷ [])) (holds 𝓤 H A W (kinds ps) taken 1 tt κs qs a at) (qed W (Levels ∷ []) ∵
         begins ! (𝓣 .C) (𝓣 .Λ) code.function (sliceVal (a .0 .ptr) (length store) ∷ vint w64 depth ∷ vint w8 states ∷ []) _
-        (all-typed 𝓤 H A taken (shr-slice-lawful 𝓤 H A W (named 0) (κs .0) record-type, (uint-lawful 𝓤 H A W w64, (uint-lawful 𝓤 H A W w8, tt))) a at (p₀, ((refl, p₁), ((refl, p₂), tt)))) (λ bs.
+        (all-typed 𝓤 H A taken (lawfuls 𝓤 H A W ps κs) a at (p₀, ((refl, p₁), ((refl, p₂), tt)))) (λ bs.
         lets ! (of-opd ! (true-lit !)) refl (tt, tt) $ lets ! (of-opd ! (lit ! tt)) refl (tt, record { fits = lit< tt }) $
         first ! $ blocks ! $ loops ! 𝓣 Nearer nearer-ends (At bs) (turns bs) (0, zero-le)))
 
@@ -173,8 +172,7 @@ unfolding code.routine tablesOf
 stored-in-spec 𝓤 H 𝓜 𝓖 𝓡 =
     let W = givenOf 𝓤 H 𝓜 𝓖 in
     proved 𝓤 H 𝓜 𝓖 𝓡 stored-in.ended (stored-in.clauses 𝓤 H (𝓖 .A) (𝓜 .mem) (𝓡 .run)) stayed code.function code.env #stored-in (code.unfolded 𝓤 H 𝓜 𝓡)
-    (goes-dropped 𝓤 H (𝓖 .A) W 1 (shrSliceOf (0 ∷ []) tt (plain (λ _. record-type))) yes (λ κs x f. refl), (goes-dropped 𝓤 H (𝓖 .A) W 1 (plain (λ _. usize)) yes (λ κs x f. refl), (goes-dropped 𝓤 H (𝓖 .A) W 1 (plain (λ _. u8)) yes (λ κs x f. refl), tt)))
-    (λ κs. (slice-vals, (uint-vals w64, (uint-vals w8, tt)))) (λ κs. (shr-slice-tells (named 0) (κs .0) record-type, (uint-tells w64, (uint-tells w8, tt))))
+    (all-go 𝓤 H (𝓖 .A) W ps) (spells ps) (tellss ps)
     (λ κs qs bounds a g are. via 𝓤 _ (fst∗ 𝓤 _ (emp 𝓤)) (walk 𝓤 H (𝓖 .A) W (𝓜 .mem) (𝓡 .run) (tablesOf 𝓤 H 𝓜 (tables 𝓤 H 𝓜 𝓡 code.env)) κs qs a
     (cited 𝓤 H (tripleOf 𝓤 H (𝓖 .A) level-at.signature (level-at.spec 𝓤 H (𝓖 .A) (𝓜 .mem) (𝓡 .run))) 𝓜 𝓡 code.env #level-at level-at-def.routine code.calls-levels·level-at (level-at-thm.met 𝓤 H 𝓜 𝓖 𝓡))
     (cited 𝓤 H (tripleOf 𝓤 H (𝓖 .A) still-in.signature (still-in.spec 𝓤 H (𝓖 .A) (𝓜 .mem) (𝓡 .run))) 𝓜 𝓡 code.env #still-in still-in-def.routine code.calls-reading·checking·still-in (still-in-thm.met 𝓤 H 𝓜 𝓖 𝓡))

@@ -25,18 +25,15 @@ use types.Kit.{Given, Item, ‵, ⋆, Sq, runs, anyQ, atRet, _$_, _∵_, !, qed,
 use types.Part.{whole, sub, look-in}
 use types.Run.{Below, look, no-more, and-then, of-opd, bin, stop, fld, from, load, first, blocks, loops, again, exec, returns}
 use denote.RattleType.{RattleType}
-use denote.Laws.{Is, all-typed}
-use denote.Plain.{uint-vals, uint-tells, uint-lawful}
-use denote.Builtin.{u8, u16, u32, u64}
+use denote.Laws.{Is, all-typed, valss}
+use denote.Builtin.{u8, u16, u64}
 use denote.Ref.{at-last}
-use denote.Slice.{sliceVal, MutSlice, ShrSlice, slice-vals, mut-slice-tells, shr-slice-tells, mut-slice-lawful, shr-slice-lawful}
-use denote.Signature.{plain, shrSliceOf}
+use denote.Slice.{sliceVal, MutSlice, ShrSlice, slice-vals}
 use denote.Struct.Laws as LL
 use denote.Triple.Entry.{Args, Vals, onEntry}
 use denote.Triple.Spec.{Meets, tripleOf}
 use denote.Triple.Table.{cited}
-use denote.Triple.Walked.{says, Stays, stay-slice, stay-dropped, goes-slice, goes-dropped, walkOf, ends-at}
-use denote.Exit.{yes}
+use denote.Triple.Walked.{says, Stays, walkOf, ends-at}
 use Rattle.meaning.specs.declared.Level.{Level}
 use Rattle.meaning.specs.FullReading.{blank}
 use Rattle.meaning.specs.Calls.{topOf}
@@ -51,14 +48,15 @@ use Rattle.reading.proofs.Going.Laws as Go′
 use Rattle.reading.proofs.Advance as Ad
 use Rattle.reading.proofs.Advance.Laws as Ad′
 use Rattle.reading.proofs.OneTurn.{Underway, underway-start, underway-ready, underway-next, underway-ends}
-use Rattle.reading.proofs.Passed.{level-value, reading-value, rule-value, going-value, advance-value, Turns-so, top-by, advance-by}
+use Rattle.reading.proofs.Passed.{reading-value, rule-value, going-value, advance-value, Turns-so, top-by, advance-by}
 use Rattle.levels.proofs.Values.{FitsIn, storable}
 use Rattle.levels.proofs.Locals.{Blocks, placed, lying, dying, freed, cleared}
 use Rattle.levels.proofs.Lines.{var, count, pointer, bundle, lets, sets-last, lands-in, begins}
 use Rattle.levels.proofs.Loop.{tests}
-use Rattle.levels.proofs.Parameters.{Kind, by-value, shared, unique, holds, leaves}
+use Rattle.levels.proofs.Listed.{Parameter, of-shared, of-unique, of-number, of-value, kinds, stays, rows, spells, tellss, lawfuls, all-go}
+use Rattle.levels.proofs.Parameters.{holds, leaves}
 use Rattle.levels.proofs.Meets.{knowing, proved}
-use Rattle.levels.proofs.Element.{record-type, Fits}
+use Rattle.levels.proofs.Element.{record-type, Fits, level-value}
 use Rattle.levels.proofs.InPlace.{calls-by}
 use Rattle.levels.proofs.Passing.{Said}
 use Rattle.levels.proofs.Loans.{Kept, Shown, relent, reshown, shown}
@@ -89,11 +87,11 @@ use Rattle.reading.proofs.feeding.feed_loop.Statement as stated
 use Rattle.reading.proofs.feeding.feed_loop.Code as code
 use Rattle.reading.proofs.feeding.feed_loop.Code.Mir as body
 
-abbrev kinds : List Kind
-kinds = shared ∷ by-value ∷ shared ∷ by-value ∷ by-value ∷ unique ∷ shared ∷ []
+abbrev ps : List (Parameter 4)
+ps = of-shared 0 tt u8 ∷ of-value rule-value (λ x f. refl) ∷ of-shared 1 tt u64 ∷ of-number w32 ∷ of-value going-value (λ x f. refl) ∷ of-unique 2 tt record-type ∷ of-shared 3 tt u16 ∷ []
 
 abbrev stayed : Stays (feed-loop.ended .signature .params) (feed-loop.ended .kept)
-stayed = (stay-dropped (shrSliceOf (0 ∷ []) tt (plain (λ _. u8))) yes, (stay-dropped (plain (λ _. rule-value .row)) yes, (stay-dropped (shrSliceOf (1 ∷ []) tt (plain (λ _. u64))) yes, (stay-dropped (plain (λ _. u32)) yes, (stay-dropped (plain (λ _. going-value .row)) yes, (stay-slice (2 ∷ []) tt (plain (λ _. record-type)), (stay-dropped (shrSliceOf (3 ∷ []) tt (plain (λ _. u16))) yes, tt)))))))
+stayed = stays ps
 
 -- what the parts of a value owe
 module _ (g : Going) (fits : FitsIn going-value g) where
@@ -136,10 +134,10 @@ module _ {M : Type 1} (𝓤 : URA M) (H : Heap 𝓤) (A : Atoms 𝓤) (W : Given
   es = a .1 .1 .1 .1 .1 .1 .0 .now
 
   abbrev at : Vals feed-loop.signature κs
-  at = (slice-vals (a .0), (rule-value .val rule ∷ [], (slice-vals (a .1 .1 .0), (vint w32 ceiling ∷ [], (going-value .val start ∷ [], (slice-vals (a .1 .1 .1 .1 .1 .0), (slice-vals (a .1 .1 .1 .1 .1 .1 .0), tt)))))))
+  at = valss (rows ps κs) (spells ps κs) a
 
   abbrev taken : List RattleType
-  taken = ShrSlice (named 0) (κs .0) u8 ∷ rule-value .row ∷ ShrSlice (named 1) (κs .1 .0) u64 ∷ u32 ∷ going-value .row ∷ MutSlice (named 2) (κs .1 .1 .0) record-type ∷ ShrSlice (named 3) (κs .1 .1 .1 .0) u16 ∷ []
+  taken = rows ps κs
 
   abbrev Post : Val → SProp 𝓤
   Post = walkOf 𝓤 H A feed-loop.ended stayed (feed-loop.clauses 𝓤 H A at-mem run) .post ((κs, qs, tt, a, at), tt)
@@ -160,7 +158,7 @@ module _ {M : Type 1} (𝓤 : URA M) (H : Heap 𝓤) (A : Atoms 𝓤) (W : Given
   exits g zs gone fits =
       qed W (File ∷ Book ∷ Levels zs ∷ Events ∷ []) ∵
       suffices ! _ (ends-at 𝓤 H A feed-loop.ended stayed (feed-loop.clauses 𝓤 H A at-mem run) W ((κs, qs, tt, a, at), tt) (going-value .val g) g (tt, (tt, (tt, (tt, (tt, (zs, (tt, tt))))))) (tt, (tt, (tt, (tt, (tt, (gone .sameRoom, (tt, tt)))))))) $ says ! gone $
-      by ! (leaves 𝓤 H A W kinds taken 4 tt κs qs (a .0, (rule, (a .1 .1 .0, (ceiling, (start, (at-last (a .1 .1 .1 .1 .1 .0) zs, (a .1 .1 .1 .1 .1 .1 .0, tt))))))) at (going-value .row .own g (going-value .val g ∷ [])) (going-value .makes M 𝓤 H A g (going-value .val g ∷ []) fits))
+      by ! (leaves 𝓤 H A W (kinds ps) taken 4 tt κs qs (a .0, (rule, (a .1 .1 .0, (ceiling, (start, (at-last (a .1 .1 .1 .1 .1 .0) zs, (a .1 .1 .1 .1 .1 .1 .0, tt))))))) at (going-value .row .own g (going-value .val g ∷ [])) (going-value .makes M 𝓤 H A g (going-value .val g ∷ []) fits))
 
   -- feeding stands at g over a store
   pub record Stands : Type 0 where
@@ -245,9 +243,9 @@ module _ {M : Type 1} (𝓤 : URA M) (H : Heap 𝓤) (A : Atoms 𝓤) (W : Given
 
     walk : ent 𝓤 (onEntry 𝓤 H A feed-loop.signature κs qs a at) (WpFn 𝓤 H (𝓣 .C) (𝓣 .Λ) code.function (sliceVal (a .0 .ptr) (length file) ∷ rule-value .val rule ∷ sliceVal (a .1 .1 .0 .ptr) (length book) ∷ vint w32 ceiling ∷ going-value .val start ∷ sliceVal (a .1 .1 .1 .1 .1 .0 .ptr) (length ls) ∷ sliceVal (a .1 .1 .1 .1 .1 .1 .0 .ptr) (length es) ∷ []) Post)
     walk =
-        via 𝓤 (⋆ 𝓤 H A (File ∷ Book ∷ Levels ls ∷ Events ∷ [])) (holds 𝓤 H A W kinds taken 4 tt κs qs a at) (qed W (File ∷ Book ∷ Levels ls ∷ Events ∷ []) ∵
+        via 𝓤 (⋆ 𝓤 H A (File ∷ Book ∷ Levels ls ∷ Events ∷ [])) (holds 𝓤 H A W (kinds ps) taken 4 tt κs qs a at) (qed W (File ∷ Book ∷ Levels ls ∷ Events ∷ []) ∵
         begins ! (𝓣 .C) (𝓣 .Λ) code.function (sliceVal (a .0 .ptr) (length file) ∷ rule-value .val rule ∷ sliceVal (a .1 .1 .0 .ptr) (length book) ∷ vint w32 ceiling ∷ going-value .val start ∷ sliceVal (a .1 .1 .1 .1 .1 .0 .ptr) (length ls) ∷ sliceVal (a .1 .1 .1 .1 .1 .1 .0 .ptr) (length es) ∷ []) _
-        (all-typed 𝓤 H A taken (shr-slice-lawful 𝓤 H A W (named 0) (κs .0) u8, (rule-value .lawful M 𝓤 H A W, (shr-slice-lawful 𝓤 H A W (named 1) (κs .1 .0) u64, (uint-lawful 𝓤 H A W w32, (going-value .lawful M 𝓤 H A W, (mut-slice-lawful 𝓤 H A W (named 2) (κs .1 .1 .0) record-type, (shr-slice-lawful 𝓤 H A W (named 3) (κs .1 .1 .1 .0) u16, tt))))))) a at (p₀, (p₁, (p₂, ((refl, p₃), (p₄, (p₅, (p₆, tt)))))))) (λ bs.
+        (all-typed 𝓤 H A taken (lawfuls 𝓤 H A W ps κs) a at (p₀, (p₁, (p₂, ((refl, p₃), (p₄, (p₅, (p₆, tt)))))))) (λ bs.
         lets ! (pointer ! refl refl refl) refl (tt, tt) $ lets ! (bundle ! (var ! refl) (count ! refl refl refl)) refl (tt, (tt, (record { fits = p₅ .0 .1 .0 }, tt))) $
         calls-by ! 𝓣 (25 ∷ []) refl (counts W at-mem run 𝓣 ls count-known (reshown W (κs .1 .1 .0) (qs .1 .1 .0) (a .1 .1 .1 .1 .1 .0 .name))) (and-then ! (var ! refl) (no-more !)) (λ room-fits. lands-in ! refl (tt, record { fits = room-fits .1 }) $
         lets ! (of-opd ! (var ! refl)) refl (storable going-value W start p₄) $
@@ -258,24 +256,8 @@ pub feed-loop-spec : {M : Type 1} → stated.statement M
 unfolding code.routine tablesOf
 feed-loop-spec {M} 𝓤 H 𝓜 𝓖 𝓡 =
     let W = givenOf 𝓤 H 𝓜 𝓖 in
-    proved 𝓤 H 𝓜 𝓖 𝓡 feed-loop.ended (feed-loop.clauses 𝓤 H (𝓖 .A) (𝓜 .mem) (𝓡 .run)) stayed code.function code.env #feed-loop (code.unfolded 𝓤 H 𝓜 𝓡) (
-      goes-dropped 𝓤 H (𝓖 .A) W 4 (shrSliceOf (0 ∷ []) tt (plain (λ _. u8))) yes (λ κs x f. refl),
-      (
-        goes-dropped 𝓤 H (𝓖 .A) W 4 (plain (λ _. rule-value .row)) yes (λ κs x f. refl),
-        (
-          goes-dropped 𝓤 H (𝓖 .A) W 4 (shrSliceOf (1 ∷ []) tt (plain (λ _. u64))) yes (λ κs x f. refl),
-          (
-            goes-dropped 𝓤 H (𝓖 .A) W 4 (plain (λ _. u32)) yes (λ κs x f. refl),
-            (
-              goes-dropped 𝓤 H (𝓖 .A) W 4 (plain (λ _. going-value .row)) yes (λ κs x f. refl),
-              (goes-slice 𝓤 H (𝓖 .A) W 4 2 tt (plain (λ _. record-type)), (goes-dropped 𝓤 H (𝓖 .A) W 4 (shrSliceOf (3 ∷ []) tt (plain (λ _. u16))) yes (λ κs x f. refl), tt)),
-            ),
-          ),
-        ),
-      ),
-    )
-    (λ κs. (slice-vals, (λ x. rule-value .val x ∷ [], (slice-vals, (uint-vals w32, (λ x. going-value .val x ∷ [], (slice-vals, (slice-vals, tt))))))))
-    (λ κs. (shr-slice-tells (named 0) (κs .0) u8, (rule-value .tells, (shr-slice-tells (named 1) (κs .1 .0) u64, (uint-tells w32, (going-value .tells, (mut-slice-tells (named 2) (κs .1 .1 .0) record-type, (shr-slice-tells (named 3) (κs .1 .1 .1 .0) u16, tt))))))))
+    proved 𝓤 H 𝓜 𝓖 𝓡 feed-loop.ended (feed-loop.clauses 𝓤 H (𝓖 .A) (𝓜 .mem) (𝓡 .run)) stayed code.function code.env #feed-loop (code.unfolded 𝓤 H 𝓜 𝓡)
+    (all-go 𝓤 H (𝓖 .A) W ps) (spells ps) (tellss ps)
     (λ κs qs bounds a g are. knowing 𝓤 (Goes (a .0 .now) (a .1 .0) (a .1 .1 .0 .now) (a .1 .1 .1 .1 .1 .0 .now) (a .1 .1 .1 .1 .1 .1 .0 .now) (a .1 .1 .1 .1 .0)) (λ goes. walk 𝓤 H (𝓖 .A) W (𝓜 .mem) (𝓡 .run) (tablesOf 𝓤 H 𝓜 (tables 𝓤 H 𝓜 𝓡 code.env)) κs qs a
     (cited 𝓤 H (tripleOf 𝓤 H (𝓖 .A) level-at.signature (level-at.spec 𝓤 H (𝓖 .A) (𝓜 .mem) (𝓡 .run))) 𝓜 𝓡 code.env #level-at level-at-def.routine code.calls-levels·level-at (level-at-thm.met 𝓤 H 𝓜 𝓖 𝓡))
     (cited 𝓤 H (tripleOf 𝓤 H (𝓖 .A) put-level.signature (put-level.spec 𝓤 H (𝓖 .A) (𝓜 .mem) (𝓡 .run))) 𝓜 𝓡 code.env #put-level put-level-def.routine code.calls-levels·put-level (put-level-thm.met 𝓤 H 𝓜 𝓖 𝓡))
