@@ -13,7 +13,7 @@ use Rattle.meaning.specs.declared.Level.{Level}
 use Rattle.meaning.specs.declared.Reading.{Reading}
 use Rattle.reading.specs.Feeding.{FedIs}
 use Rattle.reading.specs.Whole.{ReadIs}
-use Rattle.host.specs.Numbers.{Laid, listed, judgedValues, fedNumbers, wentNumbers, FeedLaid, DocumentLaid}
+use Rattle.host.specs.Numbers.{Laid, listed, judgedValues, fedNumbers, FeedLaid, DocumentLaid}
 
 pub laid-as : {numbers numbers′ held : List ℕ} {fitted : Bool} {held′ : List ℕ} → numbers ≡ numbers′
     → Laid numbers held fitted held′ → Laid numbers′ held fitted held′

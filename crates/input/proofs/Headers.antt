@@ -1,12 +1,10 @@
 -- What the header of the record of events says, by the tests that lead there, and where that record starts.
 use mathlib.Core.Path.{_≡_, refl, ap, _∙_}
-use mathlib.Core.Bool.{Bool, true, false, not}
 use mathlib.Core.List.{List}
 use Prim.Native.Nat.{ℕ, _+_, _%_, _≤_, _<_}
-use native.Mathlib.Omega.{arith}
 use lib.ListN.{length}
 use borrow.Author.Tests.{lt-ltb, le-ltb, eq-eqb, ne-eqb}
-use Rattle.meaning.specs.Answers.{Answer, given, refused, refuse_at_when_otherwise_, _giving_, if_then_else_, _=?_, _<?_}
+use Rattle.meaning.specs.Answers.{given, refused, refuse_at_when_otherwise_, _giving_, _=?_}
 use Rattle.meaning.specs.RuleFile.{Rule, headerLength, number2, number4, checkRule}
 use Rattle.meaning.specs.CheckProgram.{EventsAt, eventsKind, eventsHeader, eventsPlace, frontCheck}
 use Rattle.meaning.proofs.Answered.{refuse-passes, refuse-stops, giving-passes, giving-stops, if-true, if-false}

@@ -1,15 +1,15 @@
 -- What an accepted file is: its rule is the one that its bytes stand for, that is a rule, and the file is as long as its
 -- four records. Everything above the rule check uses these laws and not the check's text.
-use mathlib.Core.Path.{_≡_, refl, sym, ap, _∙_, subst}
-use mathlib.Core.Bool.{Bool, true, false, not, _&&_, _||_}
+use mathlib.Core.Path.{_≡_, refl, subst}
+use mathlib.Core.Bool.{Bool, true, not}
 use mathlib.Core.List.{List, [], _∷_}
 use Prim.Native.Nat.{ℕ, zero, suc, _+_, _*_, _≤_, _<_, _-_}
 use native.Mathlib.Nat.{not-suc-le-zero, le-of-suc-le-suc}
 use native.Mathlib.Omega.{arith}
-use lib.ListN.{length, getD, take, drop, length-drop}
+use lib.ListN.{length, getD, drop, length-drop}
 use lib.Seq.{length-take-le}
-use borrow.Author.Tests.{ltb-false, ltb-true, leb-true, eqb-true}
-use Rattle.meaning.specs.Answers.{Answer, given, refused, refuse_at_when_otherwise_, _andThen_, _<?_, _=?_, _≤?_}
+use borrow.Author.Tests.{ltb-false, leb-true}
+use Rattle.meaning.specs.Answers.{given, _andThen_, _≤?_}
 use Rattle.meaning.specs.RuleFile.{Rule, IsRule, isStates, isState, isMove, isClass, isLetters, part, ruleOf, checkRule, recordCheck, numbersCheck, tableCheck, letterRecord, treeRecord, classRecord, fileLength, headerLength, numbersLength, mostStates, mostLetters}
 use Rattle.meaning.proofs.Answered.{refuse-given, andThen-given, not-false-true, and-true}
 

@@ -1,6 +1,6 @@
 -- Laws of the words in which the definitions are written: what a check that passes lets through, and what an answer that was
 -- given says of the checks before it. Whoever uses a definition goes by these and does not open the words.
-use mathlib.Core.Path.{_≡_, refl, sym, _∙_}
+use mathlib.Core.Path.{_≡_, refl}
 use mathlib.Core.Bool.{Bool, true, false, not, _&&_, _||_}
 use Prim.Native.Nat.{ℕ}
 use native.Mathlib.Omega.{arith}

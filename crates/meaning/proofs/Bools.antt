@@ -1,7 +1,7 @@
 -- Laws of tests that are true of every number below n, or of some, and of lists made by a function: what the computed
 -- tests say of each number. They hold by induction over n.
 use mathlib.Core.Path.{_≡_, refl, ap}
-use mathlib.Core.Bool.{Bool, true, false, _&&_, _||_}
+use mathlib.Core.Bool.{Bool, true, false, _||_}
 use Prim.Native.Nat.{ℕ, zero, suc, _<_}
 use native.Mathlib.Nat.{not-suc-le-zero, le-of-suc-le-suc, eq-or-lt-of-le}
 use mathlib.Core.Logic.{_⊎_, inl, inr}

@@ -2,21 +2,18 @@
 -- every level store and every ceiling. A feed over the lent store is a run over levels, and with a book of zeros it is full
 -- reading; so what is proved of runs is proved of the calls.
 use mathlib.Core.Path.{_≡_, refl, sym, ap, ap₂, _∙_}
-use mathlib.Core.Bool.{true, false}
-use mathlib.Core.List.{List, [], _∷_, _++_}
+use mathlib.Core.List.{List}
 use Prim.Native.Nat.{ℕ, zero, suc, _+_, _-_, _≤_, _<_}
-use native.Mathlib.Numerals.{add-one}
 use native.Mathlib.Omega.{arith}
-use lib.ListN.{length, getD, drop, replicate, length-replicate}
+use lib.ListN.{length, getD, drop}
 use Rattle.meaning.specs.declared.Reading.{Reading}
 use Rattle.meaning.specs.declared.Level.{Level}
-use Rattle.meaning.specs.Answers.{Answer, given, refused, _giving_, if_then_else_, _<?_}
-use Rattle.meaning.specs.RuleFile.{Rule, IsRule, checkRule, ruleOf}
+use Rattle.meaning.specs.Answers.{given, if_then_else_, _<?_}
+use Rattle.meaning.specs.RuleFile.{Rule, checkRule, ruleOf}
 use Rattle.meaning.specs.FullReading.{Went, Run, innermost, freshReading, blank, feedBy}
-use Rattle.meaning.specs.SkipBook.{IsBook, bookOf, makeBook, bookAfter}
+use Rattle.meaning.specs.SkipBook.{IsBook, makeBook, bookAfter}
 use Rattle.meaning.specs.PassedOver.{notPassedOver}
-use Rattle.meaning.specs.Calls.{Judged, Stored, storeStep, topOf, openPlace, endOf, feedCall, finishCall, finishFed, readingCheck}
-use Rattle.meaning.proofs.Answered.{giving-passes, giving-given, if-true, if-false}
+use Rattle.meaning.specs.Calls.{Judged, Stored, storeStep, topOf, openPlace, endOf, feedCall, finishCall, readingCheck}
 use Rattle.meaning.proofs.Accepted.{accepted-is-rule}
 use Rattle.meaning.proofs.BookMade.{made-is-book}
 use Rattle.meaning.proofs.Rounds.{never-used-up}
@@ -25,7 +22,7 @@ use Rattle.meaning.proofs.ReadingCheck.{feed-checked, finish-checked, f
 use Rattle.meaning.proofs.StoreView.{levelsOf, OneView, store-is-levels}
 use Rattle.meaning.proofs.Whole.{madeBook, made-says, made-length, fresh-checked}
 use Rattle.meaning.proofs.ZeroBook.{Zeros, zero-book}
-use Rattle.meaning.proofs.Demand3.{EndsAlike, demand-3}
+use Rattle.meaning.proofs.Demand3.{demand-3}
 
 -- the book that a maker left is the rule's own
 pub made-own : (file lent : List ℕ) {count : ℕ} → makeBook file lent ≡ given count → IsBook (ruleOf file) (madeBook file lent)

@@ -10,7 +10,7 @@ use lib.ListN.{length, length-append}
 use borrow.Author.Tests.{lt-ltb, ltb-true, leb-false, lt-leb, eqb-true}
 use Rattle.meaning.specs.declared.Reading.{Reading}
 use Rattle.meaning.specs.declared.Level.{Level}
-use Rattle.meaning.specs.Answers.{Answer, given, refused, _≤?_, _<?_}
+use Rattle.meaning.specs.Answers.{given, _≤?_, _<?_}
 use Rattle.meaning.specs.RuleFile.{Rule}
 use Rattle.meaning.specs.FullReading.{Event, opens, closes, letter, eventOf, mostEvents, letterTable, startTable, treeTable}
 use Rattle.meaning.specs.FullReading.{Turn, stays, looked, opened, fullTurn, knownEvent}

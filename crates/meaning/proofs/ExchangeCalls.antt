@@ -2,7 +2,7 @@
 -- other well-nested run of known events within the event limit, leaves verdict, state and looks as they were. It holds with
 -- any book that is long enough, and so with the rule's own.
 use mathlib.Core.Path.{_≡_, refl, sym, ap, ap₂, _∙_}
-use mathlib.Core.Bool.{true, false, _&&_}
+use mathlib.Core.Bool.{true, _&&_}
 use mathlib.Core.List.{List, _++_}
 use Prim.Native.Nat.{ℕ, zero, suc, _+_, _-_, _≤_}
 use native.Mathlib.Omega.{arith}
@@ -11,7 +11,7 @@ use Rattle.meaning.specs.declared.Reading.{Reading}
 use Rattle.meaning.specs.declared.Level.{Level}
 use Rattle.meaning.specs.Answers.{given, _<?_}
 use Rattle.meaning.specs.RuleFile.{Rule, checkRule}
-use Rattle.meaning.specs.FullReading.{Run, Went, innermost, blank, freshReading, mostEvents}
+use Rattle.meaning.specs.FullReading.{Went, innermost, blank, freshReading, mostEvents}
 use Rattle.meaning.specs.Hedges.{wellNested}
 use Rattle.meaning.specs.SkipBook.{inHold}
 use Rattle.meaning.specs.Skipping.{held, settled}

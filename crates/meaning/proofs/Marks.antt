@@ -1,19 +1,17 @@
 -- Laws of marks: what stands in a list of n marks, and how many numbers below n pass a test. Whoever uses marks goes by these
 -- and does not open the words.
-use mathlib.Core.Path.{_≡_, refl, sym, ap, ap₂, _∙_}
-use mathlib.Core.Logic.{_⊎_, inl, inr, ⊎-elim}
-use mathlib.Core.Bool.{Bool, true, false, not, _&&_, _||_, false≢true}
-use mathlib.Core.List.{_∷_}
-use Prim.Native.Nat.{ℕ, zero, suc, _+_, _≤_, _<_, zero-le, suc-le-suc}
-use native.Mathlib.Nat.{not-suc-le-zero, le-of-suc-le-suc, eq-or-lt-of-le, le-step, le-refl}
+use mathlib.Core.Path.{_≡_, refl, sym, ap, _∙_}
+use mathlib.Core.Logic.{_⊎_, ⊎-elim}
+use mathlib.Core.Bool.{Bool, true, false, false≢true}
+use Prim.Native.Nat.{ℕ, zero, suc, _+_, _≤_, _<_, zero-le}
+use native.Mathlib.Nat.{not-suc-le-zero, le-step, le-refl}
 use native.Mathlib.Omega.{arith}
-use lib.ListN.{length, getD, List·getD-eq-default}
+use lib.ListN.{getD, List·getD-eq-default}
 use borrow.Author.Tests.{ltb-true, ltb-false}
 use Rattle.meaning.specs.Answers.{_<?_}
-use Rattle.meaning.specs.SkipBook.{anyBelow, allBelow, listed, marked}
-use Rattle.meaning.proofs.Answered.{and-true, both-true}
-use Rattle.meaning.proofs.Truths.{truth, same-truth, or-cases, or-true-left, or-true-right, true-is-not-false}
-use Rattle.meaning.proofs.Bools.{last-or-below, below-any, any-below, no-below-any, all-below, below-all, listed-length, listed-at}
+use Rattle.meaning.specs.SkipBook.{listed, marked}
+use Rattle.meaning.proofs.Truths.{truth, true-is-not-false}
+use Rattle.meaning.proofs.Bools.{last-or-below, listed-length, listed-at}
 
 -- ---- lists of n
 

@@ -3,13 +3,13 @@
 use mathlib.Core.Path.{_≡_, refl, sym, ap, ap₂, _∙_, subst}
 use mathlib.Core.Logic.{⊎-elim, _↔_}
 use mathlib.Core.Bool.{Bool, true, false, not, _&&_, _||_, false≢true}
-use mathlib.Core.List.{List, [], _∷_}
-use Prim.Native.Nat.{ℕ, zero, suc, _*_, _+_, _≤_, _<_, zero-le, suc-le-suc}
+use mathlib.Core.List.{List}
+use Prim.Native.Nat.{ℕ, zero, suc, _≤_, _<_}
 use native.Mathlib.Omega.{arith}
-use lib.ListN.{length, getD}
+use lib.ListN.{length}
 use borrow.Author.Tests.{ltb-true, lt-ltb, leb-true, eqb-true, eq-eqb, not-true}
-use Rattle.meaning.specs.Answers.{_<?_, _=?_, _≤?_}
-use Rattle.meaning.specs.RuleFile.{Rule, IsRule, Move, noMove, to, none, asMove, letterMove, treeMove, isMove, isState, isStates}
+use Rattle.meaning.specs.Answers.{_=?_, _≤?_}
+use Rattle.meaning.specs.RuleFile.{Rule, IsRule, Move, noMove, to, none, asMove, letterMove, treeMove, isStates}
 use Rattle.meaning.specs.SkipBook.{canEndTree, Reach, itself, byLetter, byTree, anyBelow, marked, goesTo, oneMove, round, rounds, onlyState, reachedIn, adds, reachMarks, roundsUsedUp}
 use Rattle.meaning.proofs.Answered.{if-true, if-false, and-true, both-true}
 use Rattle.meaning.proofs.Reaching.{letter-below, tree-below, reach-below}

@@ -1,9 +1,9 @@
 -- The calls (document 01, "Calls and numbers"): for each, its answer on every input and what it leaves in each lent slice.
 -- The rule check, the writer and the maker stand with their own headings. Every call here takes the rule as the bytes of
 -- its file.
-use Prim.Native.Nat.{ℕ, zero, suc, _+_, _-_}
-use mathlib.Core.Bool.{Bool, true, false, not, _&&_, _||_}
-use mathlib.Core.List.{List, [], _∷_}
+use Prim.Native.Nat.{ℕ, _+_, _-_}
+use mathlib.Core.Bool.{Bool, not, _&&_, _||_}
+use mathlib.Core.List.{List}
 use lib.ListN.{length, getD, set}
 use Rattle.meaning.specs.declared.Reading.{Reading}
 use Rattle.meaning.specs.declared.Level.{Level}

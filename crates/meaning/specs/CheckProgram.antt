@@ -1,7 +1,7 @@
 -- The check program (document 01, the end of "Two small rules"): what its input is, and what its two lines say. The input is the
 -- four records of a rule, then one record of kind 5 whose body is the events, two bytes each, little-endian, and nothing after.
-use Prim.Native.Nat.{ℕ, zero, suc, _+_, _*_, _%_}
-use mathlib.Core.Bool.{Bool, true, false, not}
+use Prim.Native.Nat.{ℕ, _+_, _*_, _%_}
+use mathlib.Core.Bool.{not}
 use mathlib.Core.List.{List, [], _∷_}
 use lib.ListN.{length, take, replicate}
 use Rattle.meaning.specs.Answers.{Answer, given, refused, refuse_at_when_otherwise_, _giving_, _<?_, _=?_, if_then_else_}

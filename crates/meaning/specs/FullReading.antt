@@ -2,7 +2,6 @@
 -- levels, with document 01's numbers. Each event is one table look. What decides is said of the reading and the innermost
 -- level's record alone; what becomes of the open levels is said once, below, for all ways of reading.
 use Prim.Native.Nat.{ℕ, zero, suc, _+_, _-_}
-use mathlib.Core.Bool.{Bool, true, false}
 use mathlib.Core.List.{List, [], _∷_}
 use Rattle.meaning.specs.declared.Reading.{Reading}
 use Rattle.meaning.specs.declared.Level.{Level}

@@ -1,8 +1,8 @@
 -- The rule file (document 01, "Rule file"): four records in a fixed order, nothing after. A record is a length of four
 -- bytes, a kind of two bytes, both little-endian, and then the body. A byte is a number below 256, and a file is a list of bytes.
-use Prim.Native.Nat.{ℕ, zero, suc, _+_, _*_, _/_, _%_, _<_}
+use Prim.Native.Nat.{ℕ, suc, _+_, _*_, _/_, _%_, _<_}
 use mathlib.Core.Path.{_≡_}
-use mathlib.Core.Bool.{Bool, true, false, not, _&&_, _||_}
+use mathlib.Core.Bool.{Bool, true, not, _&&_, _||_}
 use mathlib.Core.List.{List, [], _∷_, _++_}
 use lib.ListN.{length, getD, take, drop}
 use Rattle.meaning.specs.Answers.{Answer, given, refuse_at_when_otherwise_, _andThen_, _≤?_, _<?_, _=?_, if_then_else_}

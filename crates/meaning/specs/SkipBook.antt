@@ -7,7 +7,7 @@ use mathlib.Core.List.{List, [], _∷_, _++_}
 use lib.ListN.{length, getD, drop}
 use lib.Count.{ones}
 use Rattle.meaning.specs.Answers.{Answer, given, refused, refuse_at_when_otherwise_, _giving_, _<?_, _=?_}
-use Rattle.meaning.specs.RuleFile.{Rule, Move, noMove, to, letterMove, treeMove, checkRule, ruleOf}
+use Rattle.meaning.specs.RuleFile.{Rule, Move, noMove, to, letterMove, treeMove, checkRule}
 
 -- ---- Reach
 

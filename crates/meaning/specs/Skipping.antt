@@ -1,13 +1,13 @@
 -- Skipping (document 01, "Skipping"): on a settled level nothing is looked up until the close that ends it. Any book is
 -- obeyed as it stands.
-use Prim.Native.Nat.{ℕ, zero, suc, _+_, _-_}
-use mathlib.Core.Bool.{Bool, true, false, _&&_, _||_}
+use Prim.Native.Nat.{ℕ, _+_, _-_}
+use mathlib.Core.Bool.{Bool, _&&_, _||_}
 use mathlib.Core.List.{List}
 use Rattle.meaning.specs.declared.Reading.{Reading}
 use Rattle.meaning.specs.declared.Level.{Level}
 use Rattle.meaning.specs.Answers.{Answer, given, _giving_, _<?_, if_then_else_}
 use Rattle.meaning.specs.RuleFile.{Rule}
-use Rattle.meaning.specs.FullReading.{Event, opens, closes, letter, eventOf, Turn, stays, stores, ends, fullTurn, knownEvent, Run, innermost, runAfter}
+use Rattle.meaning.specs.FullReading.{Event, opens, closes, letter, eventOf, Turn, stays, ends, fullTurn, knownEvent, Run, innermost, runAfter}
 use Rattle.meaning.specs.SkipBook.{inStill, inHold}
 
 -- ---- settled levels

@@ -24,8 +24,6 @@ use Rattle.meaning.specs.Calls.{topOf}
 use Rattle.meaning.specs.RuleFile.{isState}
 use Rattle.meaning.specs.declared.Level.{Level}
 use Rattle.meaning.specs.declared.Reading.{Reading}
-use Rattle.meaning.proofs.Level as L
-use Rattle.meaning.proofs.Level.Laws as L′
 use Rattle.meaning.proofs.Reading as Rd
 use Rattle.meaning.proofs.Reading.Laws as Rd′
 use Rattle.rule.specs.declared.Rule.{Rule}

@@ -2,13 +2,13 @@
 -- file, and an entry of a part stands in the file at the part's place and on.
 use mathlib.Core.Path.{_≡_, refl, sym, ap, _∙_}
 use mathlib.Core.List.{List, [], _∷_}
-use Prim.Native.Nat.{ℕ, zero, suc, _+_, _*_, _≤_, _<_, suc-le-suc}
-use native.Mathlib.Nat.{not-suc-le-zero, le-of-suc-le-suc, le-trans, le-of-eq, mul-le-mul-right, suc-mul}
+use Prim.Native.Nat.{ℕ, zero, suc, _+_, _*_, _≤_, _<_}
+use native.Mathlib.Nat.{not-suc-le-zero, le-of-suc-le-suc, mul-le-mul-right, suc-mul}
 use native.Mathlib.Omega.{arith}
-use lib.ListN.{length, getD, take, drop}
+use lib.ListN.{length, getD}
 use lib.Seq.{getD-take, getD-drop}
-use Rattle.meaning.specs.Answers.{Answer, given}
-use Rattle.meaning.specs.RuleFile.{Rule, none, part, checkRule, asMove, letterMove, treeMove, classOf, letterRecord, treeRecord, classRecord, headerLength}
+use Rattle.meaning.specs.Answers.{given}
+use Rattle.meaning.specs.RuleFile.{Rule, none, part, checkRule, asMove, letterMove, treeMove, classOf}
 use Rattle.meaning.proofs.Accepted.{accepted-is-rule, letter-part, tree-part, class-part}
 use Rattle.rule.specs.Tables.{letterByte, treeByte, classByte}
 

@@ -1,7 +1,7 @@
 -- The number and the values of each case of the answers of the rule check and of the writer.
 use Prim.Native.Nat.{ℕ}
 use mathlib.Core.List.{List}
-use Rattle.meaning.specs.Answers.{Answer, given, refused, _giving_}
+use Rattle.meaning.specs.Answers.{Answer, given, _giving_}
 use Rattle.meaning.specs.RuleFile as format
 use Rattle.meaning.specs.RuleFile.{checkRule}
 use Rattle.meaning.specs.Calls.{refusalSays}

@@ -2,11 +2,9 @@
 -- every event counted has its two bytes and its place. The measure is how many are left.
 -- Assumes nothing.
 use mathlib.Core.Path.{_≡_, refl, _∙_, ap}
-use Prim.Native.Nat.{ℕ, _≤_, _-_, _+_}
-use mathlib.Core.List.{List}
+use Prim.Native.Nat.{ℕ, _≤_, _-_}
 use native.Mathlib.Omega.{arith}
-use lib.ListN.{length, set, length-set}
-use borrow.Author.Needs.{needs}
+use lib.ListN.{length, length-set}
 use denote.Ref.{now}
 use Rattle.input.specs.Decoding.{decoded}
 use Rattle.input.proofs.Pairs.{Fits, count-fits, decode-more, decode-none}

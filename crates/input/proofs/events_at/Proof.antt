@@ -1,6 +1,6 @@
 -- `input::events_at` meets its contract: what the rule check answered says where the record of events starts, or what is refused.
 -- Assumes nothing.
-use mathlib.Core.Path.{_≡_, sym, _∙_, ap}
+use mathlib.Core.Path.{sym, _∙_, ap}
 use denote.Ref.{now}
 use Rattle.meaning.specs.Answers.{refused}
 use Rattle.meaning.specs.Calls.{refusalSays}

@@ -1,6 +1,6 @@
 -- `input::header_at` meets its contract: each `return` is the answer that the tests on the way to it lead to.
 -- Assumes nothing.
-use mathlib.Core.Path.{_≡_, sym, _∙_, ap}
+use mathlib.Core.Path.{sym, _∙_, ap}
 use Prim.Native.Nat.{ℕ, _%_}
 use native.Mathlib.Omega.{arith}
 use denote.Ref.{now}

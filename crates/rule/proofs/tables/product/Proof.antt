@@ -1,6 +1,6 @@
 -- `rule::tables::product` meets its contract: two numbers below 2 ^ 16 have a product below 2 ^ 32.
 -- Assumes nothing.
-use mathlib.Core.Path.{_≡_, refl}
+use mathlib.Core.Path.{refl}
 use Prim.Native.Nat.{ℕ, _*_, _<_, _^_}
 use native.Mathlib.Nat.{lt-of-le-of-lt, lt-trans, le-of-lt, mul-le-mul-left, mul-lt-mul-of-pos-right}
 use native.Mathlib.Omega.{arith}

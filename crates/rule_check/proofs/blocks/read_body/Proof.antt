@@ -1,7 +1,6 @@
 -- `rule_check::blocks::read_body` is safe and ends. The measure is the turns that are left, and only the block's length is kept.
 -- Assumes nothing.
-use mathlib.Core.Path.{_≡_, refl, _∙_}
-use native.Mathlib.Omega.{arith}
+use mathlib.Core.Path.{_≡_, refl}
 use lib.ListN.{length}
 use borrow.Author.Needs.{needs}
 use Rattle.rule_check.proofs.blocks.read_body.Statement.{statement}
