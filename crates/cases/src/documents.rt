@@ -8,7 +8,15 @@ use meaning::Reading;
 use stores::Outcome;
 
 // The largest ceiling.
-const MOST: u32 = 0xffff_ffff;
+pub const MOST: u32 = 0xffff_ffff;
+
+// Rule A's own book.
+pub fn book_a() -> [u64; 4] {
+    let file = rule_a();
+    let mut book = [0u64; 4];
+    book::make_book(&file, &mut book);
+    book
+}
 
 fn fresh_a() -> Reading {
     Reading {
@@ -34,7 +42,7 @@ fn told(name: &[u8], outcome: Outcome) {
     }
 }
 
-// A document read with some book, under a ceiling.
+// A document read with some book, under a ceiling, where the count of levels decides nothing.
 fn read_a(name: &[u8], book: &[u64], ceiling: u32, events: &[u16]) {
     let file = rule_a();
     let levels = [stores::blank(); 1024];
@@ -46,16 +54,14 @@ fn read_a(name: &[u8], book: &[u64], ceiling: u32, events: &[u16]) {
 
 // The same by skipping, with rule A's own book.
 fn skip_a(name: &[u8], ceiling: u32, events: &[u16]) {
-    let file = rule_a();
-    let mut book = [0u64; 4];
-    book::make_book(&file, &mut book);
+    let book = book_a();
     read_a(name, &book, ceiling, events);
 }
 
+// The same over one level, and over two.
 fn one_level(name: &[u8], events: &[u16]) {
     let file = rule_a();
-    let mut book = [0u64; 4];
-    book::make_book(&file, &mut book);
+    let book = book_a();
     let levels = [stores::blank(); 1];
     told(
         name,
@@ -65,8 +71,7 @@ fn one_level(name: &[u8], events: &[u16]) {
 
 fn two_levels(name: &[u8], events: &[u16]) {
     let file = rule_a();
-    let mut book = [0u64; 4];
-    book::make_book(&file, &mut book);
+    let book = book_a();
     let levels = [stores::blank(); 2];
     told(
         name,

@@ -1,12 +1,11 @@
 // Readings that are none, and the limits of a reading: numbers 6, 13, 16 and 12.
+use crate::documents::MOST;
+use crate::documents::book_a;
 use crate::lines;
 use crate::rules::rule_a;
 use crate::stores;
 use meaning::Level;
 use meaning::Reading;
-
-// The largest ceiling.
-const MOST: u32 = 0xffff_ffff;
 
 fn reading_at(state: u8, depth: u32, skip: u32, taken: u32, looks: u32) -> Reading {
     Reading {
@@ -28,17 +27,14 @@ fn feed_with(name: &[u8], reading: Reading, above: u8, book: &[u64]) {
 
 // The same by rule A's own book.
 fn feed_one(name: &[u8], reading: Reading, above: u8) {
-    let file = rule_a();
-    let mut book = [0u64; 4];
-    book::make_book(&file, &mut book);
+    let book = book_a();
     feed_with(name, reading, above, &book);
 }
 
 // The same over two levels.
-fn feed_two(name: &[u8], reading: Reading) {
+fn feed_over_two(name: &[u8], reading: Reading) {
     let file = rule_a();
-    let mut book = [0u64; 4];
-    book::make_book(&file, &mut book);
+    let book = book_a();
     let levels = [stores::blank(); 2];
     let outcome = stores::over_two(&file, &book, MOST, reading, levels, &[2]);
     lines::fed(name, outcome.fed);
@@ -47,8 +43,7 @@ fn feed_two(name: &[u8], reading: Reading) {
 // The end of a reading whose second level was opened at another place than the rest.
 fn finish_at(name: &[u8], reading: Reading, opened: u32) {
     let file = rule_a();
-    let mut book = [0u64; 4];
-    book::make_book(&file, &mut book);
+    let book = book_a();
     let mut levels = [Level {
         above: 0,
         opened: 9,
@@ -70,7 +65,7 @@ pub fn refusals() {
         &[0, 0, 0],
     );
     feed_one(b"a state of n", reading_at(3, 0, 0, 0, 0), 0);
-    feed_two(b"three levels in a store of two", reading_at(0, 3, 0, 3, 3));
+    feed_over_two(b"three levels in a store of two", reading_at(0, 3, 0, 3, 3));
     feed_one(b"a stored state of n", reading_at(0, 1, 0, 1, 1), 3);
     feed_one(
         b"skipping on an unsettled level",

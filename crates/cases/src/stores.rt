@@ -1,4 +1,5 @@
-// A reading fed and finished over levels held by value: a store of one level, one of two, and one with room for any case.
+// A reading fed and then finished over levels held by value: over one level, over two, and over room for any case. The three
+// have one contract; the first two lend their levels, and their proofs are one law over the count.
 use meaning::End;
 use meaning::Fed;
 use meaning::Level;
@@ -19,6 +20,7 @@ pub fn blank() -> Level {
     }
 }
 
+// Over one level.
 pub fn over_one(
     file: &[u8],
     book: &[u64],
@@ -35,6 +37,7 @@ pub fn over_one(
     Outcome { fed, end }
 }
 
+// Over two levels.
 pub fn over_two(
     file: &[u8],
     book: &[u64],
@@ -51,6 +54,7 @@ pub fn over_two(
     Outcome { fed, end }
 }
 
+// Over 1,024 levels, by the calls that take them by value.
 pub fn over_many(
     file: &[u8],
     book: &[u64],
