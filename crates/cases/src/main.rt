@@ -6,6 +6,7 @@ mod largest;
 mod lines;
 mod readings;
 mod rules;
+mod stores;
 
 fn main() {
     files::rule_checks();

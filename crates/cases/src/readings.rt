@@ -1,6 +1,10 @@
 // Readings that are none, and the limits of a reading: numbers 6, 13, 16 and 12.
+use crate::documents::MOST;
+use crate::documents::book_a;
 use crate::lines;
 use crate::rules::rule_a;
+use crate::stores;
+use meaning::Level;
 use meaning::Reading;
 
 fn reading_at(state: u8, depth: u32, skip: u32, taken: u32, looks: u32) -> Reading {
@@ -13,42 +17,41 @@ fn reading_at(state: u8, depth: u32, skip: u32, taken: u32, looks: u32) -> Readi
     }
 }
 
-// One event fed to a reading over two levels with a state above them, by some book.
+// One event fed to a reading over levels with a state above them, by some book.
 fn feed_with(name: &[u8], reading: Reading, above: u8, book: &[u64]) {
     let file = rule_a();
-    let mut states = [above; 2];
-    let mut places = [0u32; 2];
-    lines::fed(
-        name,
-        reading::feed(
-            &file,
-            book,
-            0xffff_ffff,
-            reading,
-            &mut states,
-            &mut places,
-            &[2],
-        ),
-    );
+    let levels = [Level { above, opened: 0 }; 1024];
+    let outcome = stores::over_many(&file, book, MOST, reading, levels, &[2]);
+    lines::fed(name, outcome.fed);
 }
 
 // The same by rule A's own book.
 fn feed_one(name: &[u8], reading: Reading, above: u8) {
-    let file = rule_a();
-    let mut book = [0u64; 4];
-    book::make_book(&file, &mut book);
+    let book = book_a();
     feed_with(name, reading, above, &book);
 }
 
+// The same over two levels.
+fn feed_over_two(name: &[u8], reading: Reading) {
+    let file = rule_a();
+    let book = book_a();
+    let levels = [stores::blank(); 2];
+    let outcome = stores::over_two(&file, &book, MOST, reading, levels, &[2]);
+    lines::fed(name, outcome.fed);
+}
+
+// The end of a reading whose second level was opened at another place than the rest.
 fn finish_at(name: &[u8], reading: Reading, opened: u32) {
     let file = rule_a();
-    let mut book = [0u64; 4];
-    book::make_book(&file, &mut book);
-    let states = [0u8; 2];
-    let places = [9, opened];
+    let book = book_a();
+    let mut levels = [Level {
+        above: 0,
+        opened: 9,
+    }; 1024];
+    levels[1] = Level { above: 0, opened };
     lines::end(
         name,
-        reading::finish(&file, &book, reading, &states, &places),
+        reading::finish_array(&file, &book, reading, levels),
         reading.looks,
     );
 }
@@ -62,11 +65,7 @@ pub fn refusals() {
         &[0, 0, 0],
     );
     feed_one(b"a state of n", reading_at(3, 0, 0, 0, 0), 0);
-    feed_one(
-        b"three levels in a store of two",
-        reading_at(0, 3, 0, 3, 3),
-        0,
-    );
+    feed_over_two(b"three levels in a store of two", reading_at(0, 3, 0, 3, 3));
     feed_one(b"a stored state of n", reading_at(0, 1, 0, 1, 1), 3);
     feed_one(
         b"skipping on an unsettled level",
