@@ -13,12 +13,11 @@ use Rattle.meaning.specs.SkipBook.{roundsUsedUp, stillMarks, wordOf, bookOf, ma
 use Rattle.meaning.specs.Calls.{refusalSays}
 use Rattle.rule.specs.declared.Rule.{Rule as Numbers}
 use Rattle.rule.specs.declared.Checked.the-variants as checked
-use Rattle.rule.specs.Says.{numbersOf, checkedSays, checkAnswer}
+use Rattle.rule.specs.Says.{numbersOf, checkedSays, checkAnswer, RuleOf}
 use Rattle.rule.proofs.Said.{fine-accepted}
 use Rattle.book.specs.declared.Made.{Made}
 use Rattle.book.specs.declared.Made.the-variants as made
 use Rattle.book.specs.Says.{madeSays}
-use Rattle.book.specs.Sets.{Accepted}
 use Rattle.meaning.proofs.OneAnswer.{refusal-says}
 use Rattle.meaning.proofs.Accepted.{accepted-rule}
 use Rattle.meaning.proofs.Answered.{refuse-stops, refuse-passes, giving-passes, giving-stops}
@@ -55,11 +54,11 @@ unfolding bookAfter
 after-given answer R book e = rw (e, bookAfter)
 
 -- the numbers of a rule that the check gave are those of the file's rule
-pub fine : (file : List ℕ) (rule : Numbers) → checkedSays (checked.Fine rule) ≡ checkAnswer file → Accepted file rule
+pub fine : (file : List ℕ) (rule : Numbers) → checkedSays (checked.Fine rule) ≡ checkAnswer file → RuleOf file rule
 fine file rule e =
     let f = fine-accepted file rule e in
     let same : ruleOf file ≡ f .0 = accepted-rule file (f .1) in
-    record { passed = f .1 ∙ ap given (sym same); numbers = ap numbersOf same ∙ f .2 }
+    record { accepted = f .1 ∙ ap given (sym same); numbers = ap numbersOf same ∙ f .2 }
 
 -- two answers that say the same are the same
 pub made-says : (a b : Made) → madeSays a ≡ madeSays b → a ≡ b

@@ -18,10 +18,10 @@ use Rattle.meaning.proofs.Bools.{any-below-same}
 use Rattle.meaning.proofs.Rounds.{counts, most-states}
 use Rattle.meaning.proofs.Accepted.{accepted-is-rule}
 use Rattle.rule.specs.declared.Rule.{Rule}
-use Rattle.rule.specs.Says.{numbersOf}
+use Rattle.rule.specs.Says.{numbersOf, RuleOf}
 use Rattle.rule.specs.Tables.{letterByte, treeByte}
 use Rattle.rule.proofs.Looks.{letter-look, tree-look}
-use Rattle.book.specs.Sets.{StandsFor, Accepted, byLetters, byTrees, firstOf, changing}
+use Rattle.book.specs.Sets.{StandsFor, byLetters, byTrees, firstOf, changing}
 use Rattle.book.proofs.Standing.{stands-as, stands-only, stands-empty, stands-more}
 
 -- ---- a byte of a table, and the state that it leads to
@@ -65,7 +65,7 @@ walk-next move i set w x e s t =
 
 -- ---- the moves of an accepted file
 
-module _ {file : List ℕ} {rule : Rule} (ok : Accepted file rule) where
+module _ {file : List ℕ} {rule : Rule} (ok : RuleOf file rule) where
   pub states-are : ruleOf file .states ≡ rule .states
   unfolding numbersOf
   states-are = ap (λ (r : Rule). r .states) (ok .numbers)
@@ -78,13 +78,13 @@ module _ {file : List ℕ} {rule : Rule} (ok : Accepted file rule) where
       → asMove (letterByte file (rule .letters) q a) ≡ letterMove (ruleOf file) q a
   letter-is q a hq ha =
       ap (λ (k : ℕ). asMove (letterByte file k q a)) (sym letters-are)
-      ∙ letter-look file (ok .passed) q a (rw states-are hq) (rw letters-are ha)
+      ∙ letter-look file (ok .accepted) q a (rw states-are hq) (rw letters-are ha)
 
   pub tree-is : (u q : ℕ) → u < rule .states → q < rule .states
       → asMove (treeByte file (rule .states) (rule .letters) u q) ≡ treeMove (ruleOf file) u q
   tree-is u q hu hq =
       ap₂ (λ (n k : ℕ). asMove (treeByte file n k u q)) (sym states-are) (sym letters-are)
-      ∙ tree-look file (ok .passed) u q (rw states-are hu) (rw states-are hq)
+      ∙ tree-look file (ok .accepted) u q (rw states-are hu) (rw states-are hq)
 
   -- all letters, and all lower states
   pub letters-walked : (q set : ℕ) → Walked (letterMove (ruleOf file) q) (rule .letters) set → StandsFor set (byLetters (ruleOf file) q)
@@ -108,4 +108,4 @@ module _ {file : List ℕ} {rule : Rule} (ok : Accepted file rule) where
 
   -- a rule has at most 64 states
   pub few-states : rule .states ≤ 64
-  few-states = omega (arith, most-states (accepted-is-rule file (ok .passed)), states-are)
+  few-states = omega (arith, most-states (accepted-is-rule file (ok .accepted)), states-are)

@@ -4,17 +4,10 @@ use mathlib.Core.Bool.{Bool, not, _&&_, _||_}
 use mathlib.Core.List.{List}
 use Prim.Native.Nat.{ℕ, _<_}
 use lib.ListN.{getD}
-use Rattle.meaning.specs.Answers.{given, _<?_}
+use Rattle.meaning.specs.Answers.{_<?_}
 use Rattle.meaning.specs.RuleFile as format
-use Rattle.meaning.specs.RuleFile.{ruleOf, checkRule, letterMove, treeMove}
+use Rattle.meaning.specs.RuleFile.{letterMove, treeMove}
 use Rattle.meaning.specs.SkipBook.{anyBelow, goesTo, canEndTree, noneOr, oneMove, reachedIn, holdMarks, wordOf, bit}
-use Rattle.rule.specs.declared.Rule.{Rule}
-use Rattle.rule.specs.Says.{numbersOf}
-
--- the file passed the rule check, and these are its rule's numbers
-pub record Accepted (file : List ℕ) (rule : Rule) : Type 0 where
-  pub passed : checkRule file ≡ given (ruleOf file)
-  pub numbers : numbersOf (ruleOf file) ≡ rule
 
 -- a word of 64 bits stands for the states that pass a test
 unfoldable pub StandsFor : ℕ → (ℕ → Bool) → Type 0

@@ -10,7 +10,7 @@ use rule::Rule;
 ghost use mathlib.Core.Path.{_≡_};
 ghost use Rattle.meaning.specs.RuleFile.{ruleOf};
 ghost use Rattle.meaning.specs.SkipBook.{makeBook, bookAfter};
-ghost use Rattle.book.specs.Sets.{Accepted};
+ghost use Rattle.rule.specs.Says.{RuleOf};
 ghost use Rattle.book.specs.Says.{madeSays};
 
 // What the maker answers: how many states are still, or a refusal.
@@ -26,7 +26,7 @@ const ROUNDS_USED_UP: u8 = 15;
 
 // The book of an accepted rule.
 fn make_for(file: &[u8], rule: Rule, book: &mut [u64]) -> Made
-    requires { ⌜ Accepted (now file) rule ⌝ }
+    requires { ⌜ RuleOf (now file) rule ⌝ }
     ensures { λ r. ⌜ madeSays r ≡ makeBook (now (file .entry)) (now (book .entry)) ⌝ }
     ensures { λ r. ⌜ now (book .exit) ≡ bookAfter (makeBook (now (file .entry)) (now (book .entry))) (ruleOf (now (file .entry))) (now (book .entry)) ⌝ }
 {

@@ -8,7 +8,8 @@ ghost use mathlib.Core.Bool.{not};
 ghost use Prim.Native.Nat.{_<_};
 ghost use Rattle.meaning.specs.RuleFile.{asMove, ruleOf};
 ghost use Rattle.meaning.specs.SkipBook.{goesTo, noneOr, oneMove};
-ghost use Rattle.book.specs.Sets.{StandsFor, Accepted, Moves, byLetters, byTrees, changing};
+ghost use Rattle.rule.specs.Says.{RuleOf};
+ghost use Rattle.book.specs.Sets.{StandsFor, Moves, byLetters, byTrees, changing};
 
 // The state that a move leads to, as a set: empty where there is none.
 fn target(byte: u8) -> u64
@@ -23,7 +24,7 @@ fn target(byte: u8) -> u64
 
 // The states that the letters lead to from a state.
 fn by_letters(file: &[u8], rule: Rule, state: u8) -> u64
-    requires { ⌜ Accepted (now file) rule ⌝ }
+    requires { ⌜ RuleOf (now file) rule ⌝ }
     requires { ⌜ state < rule .states ⌝ }
     ensures { λ r. ⌜ StandsFor r (byLetters (ruleOf (now (file .entry))) state) ⌝ }
 {
@@ -38,7 +39,7 @@ fn by_letters(file: &[u8], rule: Rule, state: u8) -> u64
 
 // The states that the lower states lead to from an upper state.
 fn by_trees(file: &[u8], rule: Rule, upper: u8) -> u64
-    requires { ⌜ Accepted (now file) rule ⌝ }
+    requires { ⌜ RuleOf (now file) rule ⌝ }
     requires { ⌜ upper < rule .states ⌝ }
     ensures { λ r. ⌜ StandsFor r (byTrees (ruleOf (now (file .entry))) upper) ⌝ }
 {
@@ -53,7 +54,7 @@ fn by_trees(file: &[u8], rule: Rule, upper: u8) -> u64
 
 // The states one move away from a state.
 fn moves_from(file: &[u8], rule: Rule, state: u8) -> u64
-    requires { ⌜ Accepted (now file) rule ⌝ }
+    requires { ⌜ RuleOf (now file) rule ⌝ }
     requires { ⌜ state < rule .states ⌝ }
     ensures { λ r. ⌜ StandsFor r (oneMove (ruleOf (now (file .entry))) state) ⌝ }
 {
@@ -63,7 +64,7 @@ fn moves_from(file: &[u8], rule: Rule, state: u8) -> u64
 
 // For each state the states one move away from it.
 pub fn all_moves(file: &[u8], rule: Rule) -> [u64; 64]
-    requires { ⌜ Accepted (now file) rule ⌝ }
+    requires { ⌜ RuleOf (now file) rule ⌝ }
     ensures { λ r. ⌜ Moves (ruleOf (now (file .entry))) r ⌝ }
 {
     let mut table = no_sets();
@@ -84,7 +85,7 @@ fn changed(byte: u8, upper: u8) -> bool
 
 // The lower states whose tree move leads from an upper state to another one.
 pub fn changes(file: &[u8], rule: Rule, upper: u8) -> u64
-    requires { ⌜ Accepted (now file) rule ⌝ }
+    requires { ⌜ RuleOf (now file) rule ⌝ }
     requires { ⌜ upper < rule .states ⌝ }
     ensures { λ r. ⌜ StandsFor r (changing (ruleOf (now (file .entry))) upper) ⌝ }
 {

@@ -13,7 +13,8 @@ ghost use lib.Count.{ones};
 ghost use Rattle.meaning.specs.Answers.{_=?_};
 ghost use Rattle.meaning.specs.RuleFile.{ruleOf};
 ghost use Rattle.meaning.specs.SkipBook.{stillMarks, wordOf, bookOf};
-ghost use Rattle.book.specs.Sets.{StandsFor, firstOf, Accepted, Reached, Holds};
+ghost use Rattle.rule.specs.Says.{RuleOf};
+ghost use Rattle.book.specs.Sets.{StandsFor, firstOf, Reached, Holds};
 
 // The states whose reach is themselves alone.
 fn still_word(reach: &[u64; 64], states: u8) -> u64
@@ -47,7 +48,7 @@ fn hold_word(reach: &[u64; 64], states: u8, change: u64) -> u64
 
 // hold(u) for each state u.
 fn hold_words(file: &[u8], rule: Rule, reach: &[u64; 64]) -> [u64; 64]
-    requires { ⌜ Accepted (now file) rule ⌝ }
+    requires { ⌜ RuleOf (now file) rule ⌝ }
     ensures { λ r. ⌜ (length r ≡ 64) × (Reached (ruleOf (now (file .entry))) 64 (now (reach .entry)) → Holds (ruleOf (now (file .entry))) r) ⌝ }
 {
     let mut table = no_sets();
@@ -76,7 +77,7 @@ fn write_words(book: &mut [u64], still: u64, holds: &[u64; 64], states: u8)
 // The book of a rule whose Reach is found, made in its own room and then written. The answer is how many states are still,
 // counted as the ones in that word.
 pub fn write_book(file: &[u8], rule: Rule, reach: &[u64; 64], book: &mut [u64]) -> u32
-    requires { ⌜ Accepted (now file) rule ⌝ }
+    requires { ⌜ RuleOf (now file) rule ⌝ }
     requires { ⌜ rule .states < length (now book) ⌝ }
     requires { ⌜ Reached (ruleOf (now file)) 64 (now reach) ⌝ }
     ensures { λ r. ⌜ r ≡ ones (wordOf (stillMarks (ruleOf (now (file .entry))))) ⌝ }

@@ -29,11 +29,10 @@ use Rattle.meaning.proofs.End as En
 use Rattle.meaning.proofs.End.Laws as En′
 use Rattle.meaning.proofs.Fed as Fe
 use Rattle.meaning.proofs.Fed.Laws as Fe′
-use Rattle.rule.specs.Says.{checkedSays}
+use Rattle.rule.specs.Says.{checkedSays, RuleOf}
 use Rattle.rule.specs.declared.Rule.{Rule}
 use Rattle.rule.specs.declared.Checked.{Checked}
 use Rattle.rule.specs.declared.Checked.the-variants as answered
-use Rattle.reading.specs.Turns.{RuleOf}
 use Rattle.reading.specs.Checks.{readingAnswer}
 use Rattle.reading.specs.Feeding.{FedIs, fedOf}
 use Rattle.reading.specs.Advancing.{rest, startOf, Goes, Gone}

@@ -17,12 +17,11 @@ use Rattle.meaning.specs.declared.Refusal.{Refusal}
 use Rattle.meaning.proofs.Accepted.{accepted-rule}
 use Rattle.meaning.proofs.Answered.{refuse-stops, refuse-passes, giving-given, giving-passes, giving-stops}
 use Rattle.meaning.proofs.ReadingCheck.{check-says, check-passes, feed-checked, feed-unchecked, finish-checked, finish-unchecked}
-use Rattle.rule.specs.Says.{numbersOf, checkedSays, checkAnswer}
+use Rattle.rule.specs.Says.{numbersOf, checkedSays, checkAnswer, RuleOf}
 use Rattle.rule.specs.declared.Rule.{Rule}
 use Rattle.rule.specs.declared.Checked.{Checked}
 use Rattle.rule.specs.declared.Checked.the-variants as checked
 use Rattle.rule.proofs.Said.{fine-accepted, giving-refused}
-use Rattle.reading.specs.Turns.{RuleOf}
 use Rattle.reading.specs.Feeding.{Feeds, FedIs, fedOf}
 use Rattle.reading.specs.Advancing.{rest, restOf, startOf, Goes, Gone}
 use Rattle.reading.specs.declared.Going.{Going}

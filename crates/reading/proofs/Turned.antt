@@ -19,9 +19,9 @@ use Rattle.meaning.proofs.Bools.{or-true-right}
 use Rattle.meaning.proofs.Accepted.{accepted-is-rule}
 use Rattle.rule.proofs.Looks.{letter-look, tree-look, class-look}
 use Rattle.rule.specs.Tables.{letterByte, treeByte, classByte}
-use Rattle.rule.specs.Says.{numbersOf}
+use Rattle.rule.specs.Says.{numbersOf, RuleOf}
 use Rattle.rule.specs.declared.Rule.{Rule}
-use Rattle.reading.specs.Turns.{lookNumber, RuleOf, StatesIn, BookServes}
+use Rattle.reading.specs.Turns.{lookNumber, StatesIn, BookServes}
 
 -- ---- a look at a byte of a table
 

@@ -22,9 +22,8 @@ use Rattle.meaning.proofs.Whole.{fresh-reading, madeBook, made-says, made-lengt
 use Rattle.rule.specs.declared.Rule.{Rule}
 use Rattle.rule.specs.declared.Checked.{Checked}
 use Rattle.rule.specs.declared.Checked.the-variants as checked
-use Rattle.rule.specs.Says.{checkedSays, checkAnswer}
+use Rattle.rule.specs.Says.{checkedSays, checkAnswer, RuleOf}
 use Rattle.rule.proofs.Said.{refused-check}
-use Rattle.reading.specs.Turns.{RuleOf}
 use Rattle.reading.specs.Feeding.{Feeds, over}
 use Rattle.reading.specs.Whole.{endFed, ReadIs, MadeRule}
 use Rattle.reading.specs.Checks.{ruleIn}

@@ -11,7 +11,7 @@ use Rattle.meaning.specs.declared.Fed.{Fed}
 use Rattle.meaning.specs.declared.Level.{Level}
 use Rattle.meaning.specs.declared.Reading.{Reading}
 use Rattle.rule.specs.declared.Rule.{Rule}
-use Rattle.reading.specs.Turns.{RuleOf}
+use Rattle.rule.specs.Says.{RuleOf}
 use Rattle.reading.specs.declared.Going.{Going}
 
 -- what feeding may count on: the rule, its book, and a reading that number 13 lets through

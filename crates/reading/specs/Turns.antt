@@ -7,11 +7,11 @@ use lib.ListN.{length}
 use Rattle.meaning.specs.Answers.{Answer, given, refused, if_then_else_, _≤?_, _=?_}
 use Rattle.meaning.specs.FullReading as full
 use Rattle.meaning.specs.FullReading.{stays, stores, ends, mostEvents}
-use Rattle.meaning.specs.RuleFile.{none, checkRule, ruleOf}
+use Rattle.meaning.specs.RuleFile.{none}
 use Rattle.meaning.specs.Skipping.{held, settled}
 use Rattle.meaning.specs.declared.Reading.{Reading}
 use Rattle.meaning.specs.declared.Level.{Level}
-use Rattle.rule.specs.Says.{numbersOf}
+use Rattle.rule.specs.Says.{RuleOf}
 use Rattle.rule.specs.declared.Rule.{Rule}
 use Rattle.reading.specs.declared.Turn.{Turn}
 use Rattle.reading.specs.declared.Turn.the-variants as turn
@@ -26,11 +26,6 @@ turnSays before (turn.Refused number) = refused number (before .taken)
 -- the number of the refusal of a look at a byte, or zero where it gives a state: the ceiling first, and then no move
 unfoldable pub lookNumber : ℕ → Reading → ℕ → ℕ → ℕ
 lookNumber ceiling r byte number = if ceiling ≤? r .looks then 9 else (if byte =? none then number else 0)
-
--- the bytes are an accepted rule file, and these are its rule's numbers
-pub record RuleOf (file : List ℕ) (rule : Rule) : Type 0 where
-  pub accepted : checkRule file ≡ given (ruleOf file)
-  pub numbers : numbersOf (ruleOf file) ≡ rule
 
 -- the state, and the state above if there is one, are states of the rule
 pub record StatesIn (rule : Rule) (r : Reading) (top : Level) : Type 0 where

@@ -17,7 +17,8 @@ ghost use Prim.Native.Nat.{ℕ, _-_, _<_};
 ghost use mathlib.Core.List.{List};
 ghost use lib.ListN.{length};
 ghost use Rattle.meaning.specs.Calls.{topOf};
-ghost use Rattle.reading.specs.Turns.{RuleOf, Counted, StatesIn, Ready, Stands};
+ghost use Rattle.rule.specs.Says.{RuleOf};
+ghost use Rattle.reading.specs.Turns.{Counted, StatesIn, Ready, Stands};
 ghost use Rattle.reading.specs.Feeding.{Feeds};
 ghost use Rattle.reading.specs.Advancing.{Advances};
 

@@ -9,7 +9,7 @@ ghost use mathlib.Core.List.{List};
 ghost use Prim.Native.Nat.{ℕ};
 ghost use Rattle.meaning.specs.RuleFile.{ruleOf};
 ghost use Rattle.meaning.specs.FullReading.{freshReading};
-ghost use Rattle.reading.specs.Turns.{RuleOf};
+ghost use Rattle.rule.specs.Says.{RuleOf};
 ghost use Rattle.reading.specs.Whole.{MadeRule};
 
 // The largest ceiling.

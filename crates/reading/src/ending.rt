@@ -16,9 +16,8 @@ ghost use Rattle.meaning.specs.RuleFile.{ruleOf};
 ghost use Rattle.meaning.specs.Calls.{verdictSays, endSays, feedingSays, openPlace, endOf};
 ghost use Rattle.meaning.specs.Answers.{_giving_};
 ghost use Rattle.meaning.specs.declared.Feeding.the-variants as feeding;
-ghost use Rattle.rule.specs.Says.{checkedSays};
+ghost use Rattle.rule.specs.Says.{checkedSays, RuleOf};
 ghost use Rattle.rule.specs.declared.Checked.the-variants as answered;
-ghost use Rattle.reading.specs.Turns.{RuleOf};
 
 // The verdict that a class stands for.
 fn verdict_of(class: u8) -> Verdict

@@ -14,7 +14,8 @@ ghost use Rattle.meaning.specs.FullReading.{opens, closes, letter, eventOf, ful
 ghost use Rattle.meaning.specs.FullReading as full;
 ghost use Rattle.meaning.specs.Skipping as skipping;
 ghost use Rattle.meaning.specs.Skipping.{endsLevel, settledTurn, skipEvent};
-ghost use Rattle.reading.specs.Turns.{turnSays, lookNumber, RuleOf, Counted, OneMore, StatesIn, Stands};
+ghost use Rattle.rule.specs.Says.{RuleOf};
+ghost use Rattle.reading.specs.Turns.{turnSays, lookNumber, Counted, OneMore, StatesIn, Stands};
 
 // The most events that a reading takes.
 pub const MOST_EVENTS: u32 = 4294967295;

@@ -1,9 +1,10 @@
 -- The number and the values of each case of the answers of the rule check and of the writer.
 use Prim.Native.Nat.{ℕ}
+use mathlib.Core.Path.{_≡_}
 use mathlib.Core.List.{List}
 use Rattle.meaning.specs.Answers.{Answer, given, _giving_}
 use Rattle.meaning.specs.RuleFile as format
-use Rattle.meaning.specs.RuleFile.{checkRule}
+use Rattle.meaning.specs.RuleFile.{checkRule, ruleOf}
 use Rattle.meaning.specs.Calls.{refusalSays}
 use Rattle.rule.specs.declared.Rule.{Rule}
 use Rattle.rule.specs.declared.Checked.{Checked}
@@ -26,3 +27,8 @@ checkAnswer file = checkRule file giving λ R. given (numbersOf R)
 unfoldable pub writtenSays : Written → Answer ℕ
 writtenSays (written.Bytes count) = given count
 writtenSays (written.Refused r) = refusalSays r
+
+-- the bytes are an accepted rule file, and these are its rule's numbers
+pub record RuleOf (file : List ℕ) (rule : Rule) : Type 0 where
+  pub accepted : checkRule file ≡ given (ruleOf file)
+  pub numbers : numbersOf (ruleOf file) ≡ rule

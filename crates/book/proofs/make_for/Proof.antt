@@ -29,7 +29,7 @@ unfolding madeSays refusalSays
 returns c =
     let start = c .before .before .before in
     let ok = start .pre in
-    let short = book-short _ (now (start .args .book)) (ok .passed) (omega (arith, states-are ok)) in
+    let short = book-short _ (now (start .args .book)) (ok .accepted) (omega (arith, states-are ok)) in
     (sym short, after-refused _ _ _ short)
 
 all-moves-requires : tie.Need-all-moves-requires
@@ -46,13 +46,13 @@ words : (c : tie.After-last-adds) → Reached (ruleOf (now (c .before .before .b
     (c .before .before .before .reach-from-all .result)
 words c =
     let ok = c .before .before .before .before .before .before .before .before .before .pre in
-    c .before .before .before .reach-from-all .ensures _ (accepted-is-rule _ (ok .passed)) (c .before .before .before .before .before .all-moves .ensures) (states-are ok)
+    c .before .before .before .reach-from-all .ensures _ (accepted-is-rule _ (ok .accepted)) (c .before .before .before .before .before .all-moves .ensures) (states-are ok)
 
 added : (c : tie.After-last-adds)
     → c .last-adds .result ≡ roundsUsedUp (ruleOf (now (c .before .before .before .before .before .before .before .before .before .args .file)))
 added c =
     let ok = c .before .before .before .before .before .before .before .before .before .pre in
-    c .last-adds .ensures _ (accepted-is-rule _ (ok .passed)) (c .before .before .before .before .before .all-moves .ensures) (states-are ok) (words c)
+    c .last-adds .ensures _ (accepted-is-rule _ (ok .accepted)) (c .before .before .before .before .before .all-moves .ensures) (states-are ok) (words c)
 
 room : (c : tie.Else1)
     → ruleOf (now (c .before .before .before .args .file)) .states + 1 ≤ length (now (c .before .before .before .args .book))
@@ -63,14 +63,14 @@ unfolding madeSays refusalSays
 returns-2 c =
     let last = c .before in
     let start = last .before .before .before .before .before .before .before .before .before in
-    let used = rounds-used-up _ (now (start .args .book)) (start .pre .passed) (room (last .before .before .before .before .before .before)) (sym (added last) ∙ c .if2 .taken) in
+    let used = rounds-used-up _ (now (start .args .book)) (start .pre .accepted) (room (last .before .before .before .before .before .before)) (sym (added last) ∙ c .if2 .taken) in
     (sym used, after-refused _ _ _ used)
 
 write-book-requires : tie.Need-write-book-requires
 write-book-requires c κs =
     let last = c .before .before .before in
     let start = last .before .before .before .before .before .before .before .before .before in
-    let rule = accepted-is-rule _ (start .pre .passed) in
+    let rule = accepted-is-rule _ (start .pre .accepted) in
     (start .pre, (omega arith, reached-last _ rule _ (words last) (sym (added last) ∙ c .before .before .if2 .left)))
 
 same-length : tie.Need-same-length
@@ -83,7 +83,7 @@ returns-3 c =
     let last = c .before .before .before .before .before .before in
     let start = last .before .before .before .before .before .before .before .before .before in
     let R : format.Rule = ruleOf (now (start .args .file)) in
-    let made = book-made _ (now (start .args .book)) (start .pre .passed) (room (last .before .before .before .before .before .before)) (sym (added last) ∙ c .before .before .before .before .before .if2 .left) in (
+    let made = book-made _ (now (start .args .book)) (start .pre .accepted) (room (last .before .before .before .before .before .before)) (sym (added last) ∙ c .before .before .before .before .before .if2 .left) in (
       ap given (written .ensures .0) ∙ sym made,
       written .ensures .1 ∙ ap (λ (n : ℕ). bookOf R ++ drop (n + 1) (now (start .args .book))) (sym (states-are (start .pre)))
           ∙ sym (after-given _ R (now (start .args .book)) made),

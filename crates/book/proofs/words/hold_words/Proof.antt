@@ -58,7 +58,7 @@ loop-again : tie.Need-loop-again Inv-loop μ-loop
 loop-again c =
     let loop = c .before .before .before .loop in
     let start = c .before .before .before .before .before .before in
-    let rule = accepted-is-rule _ (start .pre .passed) in
+    let rule = accepted-is-rule _ (start .pre .accepted) in
     let gathered = rw (sym (states-are (start .pre))) at (c .hold-word .ensures) in (
       omega arith,
       filled-next _ _ _ _ (below c) (loop .inv .1) (λ reached.

@@ -7,9 +7,8 @@ use Prim.Native.Nat.{ℕ}
 use native.Mathlib.Omega.{arith}
 use Rattle.meaning.specs.Calls.{refusalSays}
 use Rattle.meaning.specs.declared.Level.{Level}
-use Rattle.rule.specs.Says.{checkedSays, checkAnswer}
+use Rattle.rule.specs.Says.{checkedSays, checkAnswer, RuleOf}
 use Rattle.rule.proofs.Said.{refused-check}
-use Rattle.reading.specs.Turns.{RuleOf}
 use Rattle.reading.specs.Checks.{ruleIn, Seen}
 use Rattle.reading.proofs.Checks.{ruled-by, answer-rule, answer-short, answer-unread, answer-fine}
 use Rattle.reading.proofs.Turned.{states-are, few-states}
