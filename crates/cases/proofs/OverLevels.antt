@@ -52,11 +52,11 @@ use Rattle.levels.proofs.Locals.{placed, freed}
 use Rattle.levels.proofs.Lines.{var, bundle, lets, lands-in, begins}
 use Rattle.levels.proofs.Parameters.{Kind, by-value, shared, holds, leaves}
 use Rattle.levels.proofs.Meets.{proved}
-use Rattle.levels.proofs.Element.{record-type, machine, machines, tells, makes}
+use Rattle.levels.proofs.Element.{record-type, machine, machines, tells, makes, level-value}
 use Rattle.levels.proofs.ArrayLoans.{array-val, Fine, lent-array, shown-array}
 use Rattle.levels.proofs.InPlace.{learns, calls-by}
 use Rattle.levels.proofs.Loans.{Shown, shown}
-use Rattle.reading.proofs.Passed.{level-value, reading-value}
+use Rattle.reading.proofs.Passed.{reading-value}
 use Rattle.reading.proofs.Called.{fed-value, end-value, feed-by, finish-by}
 use Rattle.reading.proofs.feed as feed
 use Rattle.reading.proofs.feed.Symbol.{name as #feed}
