@@ -28,17 +28,16 @@ use types.Part.{agg, look-in, sub, whole}
 use types.Run.{look, load, lit, fld, no-more, and-then, of-opd, stop, from, addr, returns}
 use denote.RattleType.{RattleType}
 use denote.Memory.{pointee}
-use denote.Laws.{Is, all-typed}
-use denote.Plain.{uint-vals, uint-tells, uint-lawful}
-use denote.Array.{Array, array-tells, array-lawful}
+use denote.Laws.{Is, all-typed, valss}
+use denote.Array.{array-lawful}
 use denote.Builtin.{u8, u16, u32, u64, SliceRefOf, ArrayOf}
-use denote.Slice.{sliceTy, sliceVal, Room, ShrSlice, slice-vals, shr-slice-tells, shr-slice-lawful}
-use denote.Signature.{Signature, plain, shrSliceOf}
+use denote.Slice.{sliceTy, sliceVal, Room, ShrSlice, slice-vals}
+use denote.Signature.{Signature, plain}
 use denote.Struct.Laws as LL
 use denote.Triple.Clauses.{Ended, Clauses, closing}
 use denote.Triple.Entry.{Args, Vals, onEntry}
 use denote.Triple.Spec.{Meets}
-use denote.Triple.Walked.{says, Stays, stay-dropped, goes-dropped, walkOf, ends-at}
+use denote.Triple.Walked.{says, Stays, walkOf, ends-at}
 use denote.Exit.{yes}
 use Rattle.meaning.specs.declared.Level.{Level}
 use Rattle.meaning.specs.declared.Reading.{Reading}
@@ -50,9 +49,10 @@ use Rattle.meaning.proofs.Fed.Laws as Fe′
 use Rattle.levels.proofs.Values.{Valued, FitsIn, storable, of-struct}
 use Rattle.levels.proofs.Locals.{placed, freed}
 use Rattle.levels.proofs.Lines.{var, bundle, lets, lands-in, begins}
-use Rattle.levels.proofs.Parameters.{Kind, by-value, shared, holds, leaves}
+use Rattle.levels.proofs.Listed.{Parameter, of-shared, of-number, of-value, of-levels, kinds, stays, rows, spells, tellss, lawfuls, all-go}
+use Rattle.levels.proofs.Parameters.{holds, leaves}
 use Rattle.levels.proofs.Meets.{proved}
-use Rattle.levels.proofs.Element.{record-type, machine, machines, tells, makes, level-value}
+use Rattle.levels.proofs.Element.{record-type, machine, tells, makes, level-value}
 use Rattle.levels.proofs.ArrayLoans.{array-val, Fine, lent-array, shown-array}
 use Rattle.levels.proofs.InPlace.{learns, calls-by}
 use Rattle.levels.proofs.Loans.{Shown, shown}
@@ -127,11 +127,11 @@ module _ (n : ℕ) where
     ensures = λ _ x _. fact 𝓤 (OutcomeIs (a .0 .now) (a .1 .0 .now) (a .1 .1 .0) (a .1 .1 .1 .0) (a .1 .1 .1 .1 .0) (a .1 .1 .1 .1 .1 .0 .now) x);
   }
 
-  abbrev kinds : List Kind
-  kinds = shared ∷ shared ∷ by-value ∷ by-value ∷ by-value ∷ shared ∷ []
+  abbrev ps : List (Parameter 3)
+  ps = of-shared 0 tt u8 ∷ of-shared 1 tt u64 ∷ of-number w32 ∷ of-value reading-value (λ x f. refl) ∷ of-levels n ∷ of-shared 2 tt u16 ∷ []
 
   abbrev stayed : Stays (ended .signature .params) (ended .kept)
-  stayed = (stay-dropped (shrSliceOf (0 ∷ []) tt (plain (λ _. u8))) yes, (stay-dropped (shrSliceOf (1 ∷ []) tt (plain (λ _. u64))) yes, (stay-dropped (plain (λ _. u32)) yes, (stay-dropped (plain (λ _. reading-value .row)) yes, (stay-dropped (plain (λ _. Array record-type n)) yes, (stay-dropped (shrSliceOf (2 ∷ []) tt (plain (λ _. u16))) yes, tt))))))
+  stayed = stays ps
 
   module _ {M : Type 1} (𝓤 : URA M) (H : Heap 𝓤) (A : Atoms 𝓤) (W : Given 𝓤 H A) (at-mem : Memory → SProp 𝓤) (run : Routine → Fun 𝓤) (𝓣 : Tables 𝓤 H) (κs : Lfts 3) (qs : Shares 3) (a : Args signature κs) where
     abbrev file : List ℕ
@@ -153,13 +153,13 @@ module _ (n : ℕ) where
     events = a .1 .1 .1 .1 .1 .0 .now
 
     abbrev at : Vals signature κs
-    at = (slice-vals (a .0), (slice-vals (a .1 .0), (vint w32 ceiling ∷ [], (reading-value .val r ∷ [], (array-val record-type machine levels ∷ [], (slice-vals (a .1 .1 .1 .1 .1 .0), tt))))))
+    at = valss (rows ps κs) (spells ps κs) a
 
     abbrev passed : List Val
     passed = sliceVal (a .0 .ptr) (length file) ∷ sliceVal (a .1 .0 .ptr) (length book) ∷ vint w32 ceiling ∷ reading-value .val r ∷ array-val record-type machine levels ∷ sliceVal (a .1 .1 .1 .1 .1 .0 .ptr) (length events) ∷ []
 
     abbrev taken : List RattleType
-    taken = ShrSlice (named 0) (κs .0) u8 ∷ ShrSlice (named 1) (κs .1 .0) u64 ∷ u32 ∷ reading-value .row ∷ Array record-type n ∷ ShrSlice (named 2) (κs .1 .1 .0) u16 ∷ []
+    taken = rows ps κs
 
     abbrev Post : Val → SProp 𝓤
     Post = walkOf 𝓤 H A ended stayed (clauses 𝓤) .post ((κs, qs, tt, a, at), tt)
@@ -177,7 +177,7 @@ module _ (n : ℕ) where
     exits x said fits =
         qed W (File ∷ Book ∷ Events ∷ []) ∵
         suffices ! _ (ends-at 𝓤 H A ended stayed (clauses 𝓤) W ((κs, qs, tt, a, at), tt) (outcome-value .val x) x (tt, (tt, (tt, (tt, (tt, (tt, tt)))))) (tt, (tt, (tt, (tt, (tt, (tt, tt))))))) $ says ! said $
-        by ! (leaves 𝓤 H A W kinds taken 3 tt κs qs a at (outcome-value .row .own x (outcome-value .val x ∷ [])) (outcome-value .makes M 𝓤 H A x (outcome-value .val x ∷ []) fits))
+        by ! (leaves 𝓤 H A W (kinds ps) taken 3 tt κs qs a at (outcome-value .row .own x (outcome-value .val x ∷ [])) (outcome-value .makes M 𝓤 H A x (outcome-value .val x ∷ []) fits))
 
     module _ (room : Room record-type n) (feed-known : Meets 𝓤 H A feed.signature (𝓣 .C #feed) (feed.spec 𝓤 H A at-mem run)) (finish-known : Meets 𝓤 H A finish.signature (𝓣 .C #finish) (finish.spec 𝓤 H A at-mem run))
         (p0 : Is (ShrSlice (named 0) (κs .0) u8) (a .0) (slice-vals (a .0))) (p1 : Is (ShrSlice (named 1) (κs .1 .0) u64) (a .1 .0) (slice-vals (a .1 .0))) (p2 : ceiling < 2 ^ 32) (p3 : FitsIn reading-value r) (p4 : Fine record-type machine n levels) (p5 : Is (ShrSlice (named 2) (κs .1 .1 .0) u16) (a .1 .1 .1 .1 .1 .0) (slice-vals (a .1 .1 .1 .1 .1 .0))) where
@@ -201,9 +201,9 @@ module _ (n : ℕ) where
 
       walk : ent 𝓤 (onEntry 𝓤 H A signature κs qs a at) (WpFn 𝓤 H (𝓣 .C) (𝓣 .Λ) (function n) passed Post)
       walk =
-          via 𝓤 (⋆ 𝓤 H A (File ∷ Book ∷ Events ∷ [])) (holds 𝓤 H A W kinds taken 3 tt κs qs a at) (qed W (File ∷ Book ∷ Events ∷ []) ∵
+          via 𝓤 (⋆ 𝓤 H A (File ∷ Book ∷ Events ∷ [])) (holds 𝓤 H A W (kinds ps) taken 3 tt κs qs a at) (qed W (File ∷ Book ∷ Events ∷ []) ∵
           begins ! (𝓣 .C) (𝓣 .Λ) (function n) passed _
-          (all-typed 𝓤 H A taken (shr-slice-lawful 𝓤 H A W (named 0) (κs .0) u8, (shr-slice-lawful 𝓤 H A W (named 1) (κs .1 .0) u64, (uint-lawful 𝓤 H A W w32, (reading-value .lawful M 𝓤 H A W, (array-lawful 𝓤 H A W record-type (level-value .lawful M 𝓤 H A W) n, (shr-slice-lawful 𝓤 H A W (named 2) (κs .1 .1 .0) u16, tt)))))) a at (p0, (p1, ((refl, p2), (p3, (p4, (p5, tt))))))) (λ bs.
+          (all-typed 𝓤 H A taken (lawfuls 𝓤 H A W ps κs) a at (p0, (p1, ((refl, p2), (p3, (p4, (p5, tt))))))) (λ bs.
           -- file, book and events stand at 15 to 17, and the array at its own place, 7
           lets ! (of-opd ! (var ! refl)) refl array-typed $
           lets ! (addr ! (from ! (stop !))) refl (tt, tt) $ lets ! (bundle ! (var ! refl) (lit ! (fitsb-complete w64 n count-fits))) refl (tt, (tt, (count-fits, tt))) $
@@ -221,8 +221,6 @@ module _ (n : ℕ) where
     over-levels room unfolded feed-known finish-known =
         let W = givenOf 𝓤 H 𝓜 𝓖 in
         proved 𝓤 H 𝓜 𝓖 𝓡 ended (clauses 𝓤) stayed (function n) env key unfolded
-        (goes-dropped 𝓤 H (𝓖 .A) W 3 (shrSliceOf (0 ∷ []) tt (plain (λ _. u8))) yes (λ κs x f. refl), (goes-dropped 𝓤 H (𝓖 .A) W 3 (shrSliceOf (1 ∷ []) tt (plain (λ _. u64))) yes (λ κs x f. refl), (goes-dropped 𝓤 H (𝓖 .A) W 3 (plain (λ _. u32)) yes (λ κs x f. refl), (goes-dropped 𝓤 H (𝓖 .A) W 3 (plain (λ _. reading-value .row)) yes (λ κs x f. refl), (goes-dropped 𝓤 H (𝓖 .A) W 3 (plain (λ _. Array record-type n)) yes (λ κs x f. refl), (goes-dropped 𝓤 H (𝓖 .A) W 3 (shrSliceOf (2 ∷ []) tt (plain (λ _. u16))) yes (λ κs x f. refl), tt))))))
-        (λ κs. (slice-vals, (slice-vals, (uint-vals w32, (λ x. reading-value .val x ∷ [], (λ ys. array-val record-type machine ys ∷ [], (slice-vals, tt)))))))
-        (λ κs. (shr-slice-tells (named 0) (κs .0) u8, (shr-slice-tells (named 1) (κs .1 .0) u64, (uint-tells w32, (reading-value .tells, (array-tells record-type machines tells n, (shr-slice-tells (named 2) (κs .1 .1 .0) u16, tt)))))))
+        (all-go 𝓤 H (𝓖 .A) W ps) (spells ps) (tellss ps)
         (λ κs qs bounds a g are. via 𝓤 _ (fst∗ 𝓤 _ (emp 𝓤)) (walk 𝓤 H (𝓖 .A) W (𝓜 .mem) (𝓡 .run) (tablesOf 𝓤 H 𝓜 (tables 𝓤 H 𝓜 𝓡 env)) κs qs a room feed-known finish-known
         (are .0) (are .1 .0) (are .1 .1 .0 .1) (are .1 .1 .1 .0) (are .1 .1 .1 .1 .0) (are .1 .1 .1 .1 .1 .0)))
