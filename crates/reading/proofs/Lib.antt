@@ -3,6 +3,7 @@ pub mod Store
 pub mod Steps
 pub mod Going
 pub mod Checks
+pub mod Counting
 pub mod PassesOn
 pub mod WholeRead
 pub mod OneOutcome
