@@ -6,7 +6,7 @@ use mathlib.Core.List.{List, [], _∷_, _++_}
 use Prim.Native.Nat.{ℕ, zero, suc, _+_, _-_, _≤_, _<_}
 use native.Mathlib.Numerals.{add-one}
 use native.Mathlib.Omega.{arith}
-use borrow.Author.Tests.{lt-leb, le-leb, leb-false, eq-eqb, ne-eqb}
+use borrow.Author.Tests.{lt-leb, leb-false, eq-eqb, ne-eqb}
 use lib.Dec.{leb}
 use lib.ListN.{length, getD, take, drop, length-append, length-take, length-drop}
 use lib.Seq.{take-suc, take-add, take-length, length-take-le, drop-drop, getD-drop}
@@ -52,17 +52,9 @@ unfolding closings
 closes-few e = one-or-none (e =? 1)
 
 module _ (known : ℕ) where
-  pub unknown-one : (e : ℕ) → known ≤ e → unknowns known e ≡ 1
-  unfolding unknowns
-  unknown-one e h = if-true 1 0 (le-leb known e h)
-
-  pub unknown-none : (e : ℕ) → e < known → unknowns known e ≡ 0
+  unknown-none : (e : ℕ) → e < known → unknowns known e ≡ 0
   unfolding unknowns
   unknown-none e h = if-false 1 0 (lt-leb known e h)
-
-  pub unknown-few : (e : ℕ) → unknowns known e ≤ 1
-  unfolding unknowns
-  unknown-few e = one-or-none (known ≤? e)
 
   is-known : (e : ℕ) → unknowns known e ≡ 0 → e < known
   unfolding unknowns
@@ -137,9 +129,9 @@ outlasted (e ∷ es) skip h =
     rw n (passOne {skip = skip} {e = e} (omega arith) rest)
 
 -- all of a run was passed over
-pub passed-whole : (known skip skip′ : ℕ) (shallow : Bool) (events : List ℕ) → total (unknowns known) events ≡ 0 → Passing skip events skip′
-    → PassedIn known skip events (record { count = length events; skip = skip′; shallow = shallow })
-passed-whole known skip skip′ shallow events is p =
+pub passed-whole : (known skip skip′ : ℕ) (events : List ℕ) → total (unknowns known) events ≡ 0 → Passing skip events skip′
+    → PassedIn known skip events (record { count = length events; skip = skip′ })
+passed-whole known skip skip′ events is p =
     let whole = take-length events in
     record { within = omega arith; allKnown = rw whole is; passing = rw whole p }
 

@@ -18,7 +18,7 @@ use Rattle.reading.specs.declared.passing.Counts.{Counts}
 use Rattle.reading.specs.declared.passing.Depths.{Depths}
 use Rattle.reading.specs.declared.passing.Passed.{Passed}
 
--- how many trees an event opens, how many it closes, and whether it is unknown
+-- how many trees an event opens, how many it closes, and one for an event that is unknown
 unfoldable pub openings : ℕ → ℕ
 openings e = if e =? 0 then 1 else 0
 
@@ -36,6 +36,7 @@ total f (e ∷ es) = f e + total f es
 pub record CountsOf (events : List ℕ) (r : Counts) : Type 0 where
   pub opensAre : r .opens ≡ total openings events
   pub closesAre : r .closes ≡ total closings events
+  pub noneAbove : (known : ℕ) → r .largest < known → total (unknowns known) events ≡ 0
 
 -- a run whose closes do not end the level, from one skip depth to another
 pub data Passing : ℕ → List ℕ → ℕ → Type 0 where

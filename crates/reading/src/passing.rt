@@ -8,22 +8,23 @@ use meaning::Reading;
 ghost use mathlib.Core.Path.{_≡_};
 ghost use mathlib.Core.Bool.{true};
 ghost use mathlib.Core.List.{List};
-ghost use Prim.Native.Nat.{ℕ, _+_, _-_, _≤_, _<_, min};
+ghost use Prim.Native.Nat.{ℕ, _+_, _-_, _≤_, _<_, min, max};
 ghost use lib.ListN.{length};
 ghost use Rattle.meaning.specs.FullReading.{mostEvents};
 ghost use Rattle.meaning.specs.Skipping.{settled};
 ghost use Rattle.reading.specs.Turns.{BookServes, Counted};
-ghost use Rattle.reading.specs.PassingOver.{openings, closings, unknowns, total, CountsOf, oneMore, joined, DepthsOf, PassedIn, Ahead, passedOn, PassesOver};
+ghost use Rattle.reading.specs.PassingOver.{openings, closings, CountsOf, oneMore, joined, DepthsOf, PassedIn, Ahead, passedOn, PassesOver};
 
 // How many events are looked at together, and how many are looked at one by one before that: a short part is over by then.
 const BLOCK: usize = 256;
 
 const FIRST: usize = 128;
 
-// How many events of a run open a tree, and how many close one.
+// How many events of a run open a tree, how many close one, and the largest event.
 struct Counts {
     pub opens: u16,
     pub closes: u16,
+    pub largest: u16,
 }
 
 // The lowest and the last skip depth of a run that was begun at some depth.
@@ -32,11 +33,10 @@ struct Depths {
     pub last: u16,
 }
 
-// How many events were passed over, the skip depth after them, and whether that is too low for counts to be enough.
+// How many events were passed over, and the skip depth after them.
 struct Passed {
     pub count: usize,
     pub skip: u32,
-    pub shallow: bool,
 }
 
 // How many trees an event opens.
@@ -53,42 +53,34 @@ fn closings(event: u16) -> u16
     if event == 1 { 1 } else { 0 }
 }
 
-// One for an event that is unknown.
-fn unknowns(known: u16, event: u16) -> u16
-    ensures { λ r. ⌜ (r ≡ unknowns known event) × (r ≤ 1) ⌝ }
+// The greater of two numbers.
+fn greater(a: u16, b: u16) -> u16
+    ensures { λ r. ⌜ r ≡ max a b ⌝ }
 {
-    if known <= event { 1 } else { 0 }
+    if a < b { b } else { a }
 }
 
-// How many events of a block are unknown. Counting has no branch on an event, so that it is done for many at a time.
-fn count_unknown(known: u16, block: &[u16]) -> u16
-    requires { ⌜ length (now block) ≤ 256 ⌝ }
-    ensures { λ r. ⌜ r ≡ total (unknowns known) (now (block .entry)) ⌝ }
-{
-    let mut count: u16 = 0;
-    let mut i = 0;
-    while i < block.len() {
-        count += unknowns(known, block[i]);
-        i += 1;
-    }
-    count
-}
-
-// The opens and the closes of a block.
-fn count_trees(block: &[u16]) -> Counts
+// The counts of a block. Counting has no branch on an event, so that it is done for many at a time.
+fn count_events(block: &[u16]) -> Counts
     requires { ⌜ length (now block) ≤ 256 ⌝ }
     ensures { λ r. ⌜ CountsOf (now (block .entry)) r ⌝ }
 {
     let mut opens: u16 = 0;
     let mut closes: u16 = 0;
+    let mut largest: u16 = 0;
     let mut i = 0;
     while i < block.len() {
         let event = block[i];
         opens += openings(event);
         closes += closings(event);
+        largest = greater(largest, event);
         i += 1;
     }
-    Counts { opens, closes }
+    Counts {
+        opens,
+        closes,
+        largest,
+    }
 }
 
 // The lesser of two numbers.
@@ -157,7 +149,6 @@ fn pass_events(known: u16, depth: u32, block: &[u16]) -> Passed
             return Passed {
                 count: i,
                 skip: last,
-                shallow: false,
             };
         }
         // The open is counted first, so that no branch hangs on which event it is.
@@ -167,7 +158,6 @@ fn pass_events(known: u16, depth: u32, block: &[u16]) -> Passed
             return Passed {
                 count: i,
                 skip: last,
-                shallow: false,
             };
         }
         last = skip - closed;
@@ -176,26 +166,22 @@ fn pass_events(known: u16, depth: u32, block: &[u16]) -> Passed
     Passed {
         count: i,
         skip: last,
-        shallow: false,
     }
 }
 
 // A block of known events is taken at once where no close of it ends the level: where its closes are no more than the skip
 // depth, or else where its lowest depth is not below zero.
-fn pass_known(known: u16, skip: u32, shallow: bool, block: &[u16]) -> Passed
-    requires { ⌜ skip + length (now block) ≤ mostEvents ⌝ ∗ ⌜ length (now block) ≡ 256 ⌝ ∗ ⌜ total (unknowns known) (now block) ≡ 0 ⌝ }
+fn pass_known(known: u16, skip: u32, counts: Counts, block: &[u16]) -> Passed
+    requires { ⌜ skip + length (now block) ≤ mostEvents ⌝ ∗ ⌜ length (now block) ≡ 256 ⌝ ∗ ⌜ CountsOf (now block) counts ⌝ ∗ ⌜ counts .largest < known ⌝ }
     ensures { λ r. ⌜ PassedIn known skip (now (block .entry)) r ⌝ }
 {
-    if !shallow {
-        let counts = count_trees(block);
-        let closes = counts.closes as u32;
-        if closes <= skip {
-            return Passed {
-                count: block.len(),
-                skip: skip + counts.opens as u32 - closes,
-                shallow,
-            };
-        }
+    let closes = counts.closes as u32;
+    if closes <= skip {
+        let last = skip + counts.opens as u32 - closes;
+        return Passed {
+            count: block.len(),
+            skip: last,
+        };
     }
     let run = block_depths(block);
     let needed = 256 - run.lowest as u32;
@@ -204,20 +190,20 @@ fn pass_known(known: u16, skip: u32, shallow: bool, block: &[u16]) -> Passed
         return Passed {
             count: block.len(),
             skip: last,
-            shallow: last < 256,
         };
     }
     pass_events(known, skip, block)
 }
 
 // A whole block of known events is looked at together, and others one by one.
-fn pass_block(known: u16, skip: u32, shallow: bool, block: &[u16]) -> Passed
+fn pass_block(known: u16, skip: u32, block: &[u16]) -> Passed
     requires { ⌜ skip + length (now block) ≤ mostEvents ⌝ }
     ensures { λ r. ⌜ PassedIn known skip (now (block .entry)) r ⌝ }
 {
     if block.len() == BLOCK {
-        if count_unknown(known, block) == 0 {
-            return pass_known(known, skip, shallow, block);
+        let counts = count_events(block);
+        if counts.largest < known {
+            return pass_known(known, skip, counts, block);
         }
     }
     pass_events(known, skip, block)
@@ -270,11 +256,9 @@ fn pass_over(letters: u16, reading: Reading, events: &[u16], from: usize) -> Pas
     let mut skip = reading.skip;
     let mut i = from;
     let mut stop = ahead(i, FIRST, end);
-    let mut shallow = false;
     while i < end {
-        let passed = pass_block(known, skip, shallow, &events[i..stop]);
+        let passed = pass_block(known, skip, &events[i..stop]);
         skip = passed.skip;
-        shallow = passed.shallow;
         i += passed.count;
         if i < stop {
             return left_at(reading, skip, from, i);

@@ -7,11 +7,11 @@ use Rattle.reading.proofs.passing.pass_over.Statement.{statement}
 use Rattle.reading.proofs.passing.pass_over.Tie as tie
 
 abbrev Inv-loop : tie.InvT-loop
-Inv-loop letters reading events from known end skip₀ i₀ stop₀ shallow₀ skip i stop shallow =
+Inv-loop letters reading events from known end skip₀ i₀ stop₀ skip i stop =
     (i ≤ stop) × (stop ≤ end) × (i < end → i < stop) × Passes letters reading events from skip i
 
 abbrev μ-loop : tie.MeasureT-loop
-μ-loop letters reading events from known end skip₀ i₀ stop₀ shallow₀ skip i stop shallow = end - i
+μ-loop letters reading events from known end skip₀ i₀ stop₀ skip i stop = end - i
 
 add-known : tie.Need-add-known Inv-loop μ-loop
 add-known c = omega arith
