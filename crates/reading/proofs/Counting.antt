@@ -1,13 +1,13 @@
 -- Counting over runs of events. A run of known events whose closes are no more than the skip depth is passed over: no close of
--- it can end the level, since the closes before it and it are no more than that depth.
-use mathlib.Core.Path.{_≡_, refl, ap, _∙_}
+-- it can end the level, since the closes before it and it are no more than that depth. So is a run whose lowest depth, from the
+-- skip depth, is not below zero; runs that were followed side by side are joined, each moved to where the one before it ended.
+use mathlib.Core.Path.{_≡_, refl, _∙_}
 use mathlib.Core.Bool.{Bool, true, false}
 use mathlib.Core.List.{List, [], _∷_, _++_}
 use Prim.Native.Nat.{ℕ, zero, suc, _+_, _-_, _≤_, _<_}
 use native.Mathlib.Numerals.{add-one}
 use native.Mathlib.Omega.{arith}
 use borrow.Author.Tests.{lt-leb, leb-false, eq-eqb, ne-eqb}
-use lib.Dec.{leb}
 use lib.ListN.{length, getD, take, drop, length-append, length-take, length-drop}
 use lib.Seq.{take-suc, take-add, take-length, length-take-le, drop-drop, getD-drop}
 use Rattle.meaning.specs.Answers.{_=?_, _≤?_, if_then_else_}

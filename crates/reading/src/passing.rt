@@ -113,7 +113,8 @@ fn joined(begin: u16, first: Depths, second: Depths) -> Depths
     }
 }
 
-// The depths of a block. Its four parts are followed side by side, since none has to wait for another.
+// The depths of a block, which is begun at 256: no close of it then falls below zero. Its four parts, each begun at 64, are
+// followed side by side, since none has to wait for another.
 fn block_depths(block: &[u16]) -> Depths
     requires { ⌜ length (now block) ≡ 256 ⌝ }
     ensures { λ r. ⌜ DepthsOf 256 (now (block .entry)) r ⌝ }
@@ -170,7 +171,7 @@ fn pass_events(known: u16, depth: u32, block: &[u16]) -> Passed
 }
 
 // A block of known events is taken at once where no close of it ends the level: where its closes are no more than the skip
-// depth, or else where its lowest depth is not below zero.
+// depth, or else where its lowest depth, from here, is not below zero.
 fn pass_known(known: u16, skip: u32, counts: Counts, block: &[u16]) -> Passed
     requires { ⌜ skip + length (now block) ≤ mostEvents ⌝ ∗ ⌜ length (now block) ≡ 256 ⌝ ∗ ⌜ CountsOf (now block) counts ⌝ ∗ ⌜ counts .largest < known ⌝ }
     ensures { λ r. ⌜ PassedIn known skip (now (block .entry)) r ⌝ }

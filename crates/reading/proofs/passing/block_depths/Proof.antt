@@ -1,10 +1,14 @@
-use borrow.Author.Needs.{needs}
+-- `reading::passing::block_depths` meets its contract: the loop keeps the depths of the first events of each part, and the parts are
+-- joined.
+-- Assumes nothing.
 use mathlib.Core.Path.{_≡_}
-use Prim.Native.Nat.{_-_, _≤_}
+use mathlib.Core.List.{List}
+use Prim.Native.Nat.{ℕ, _-_, _≤_, _<_}
 use native.Mathlib.Omega.{arith}
 use lib.ListN.{take, drop}
 use lib.Seq.{take-all}
 use Rattle.reading.specs.PassingOver.{joined, DepthsOf}
+use Rattle.reading.specs.declared.passing.Depths.{Depths}
 use Rattle.reading.proofs.Counting.{depths-none, depths-more, depths-within, depths-join, depths-room}
 use Rattle.reading.proofs.passing.block_depths.Statement.{statement}
 use Rattle.reading.proofs.passing.block_depths.Tie as tie
@@ -17,6 +21,10 @@ Inv-loop block a₀ b₀ c₀ d₀ i₀ a b c d i =
 abbrev μ-loop : tie.MeasureT-loop
 μ-loop block a₀ b₀ c₀ d₀ i₀ a b c d i = 64 - i
 
+-- a part has room for one event more
+more : (i : ℕ) (events : List ℕ) (d : Depths) → i < 64 → DepthsOf 64 (take i events) d → (0 < d .last) × (d .last ≤ 256)
+more i events d h part = let room = depths-room 64 i events d part in (room .2 h, omega (arith, room .1))
+
 loop-holds : tie.Need-loop-holds Inv-loop μ-loop
 loop-holds c = (omega arith, depths-none 64, depths-none 64, depths-none 64, depths-none 64)
 
@@ -28,8 +36,8 @@ shared-slice-read-one-more c = omega arith
 
 one-more-requires : tie.Need-one-more-requires Inv-loop μ-loop
 one-more-requires c κs =
-    let loop = c .before .before .loop in
-    omega (arith, depths-room 64 (loop .i) (c .before .before .before .before .args .block .now) _ (loop .inv .1) .1, depths-room 64 (loop .i) (c .before .before .before .before .args .block .now) _ (loop .inv .1) .2 (omega arith))
+    let s = c .before .before .loop in
+    more (s .i) (c .before .before .before .before .args .block .now) _ (omega arith) (s .inv .1)
 
 add-one-more : tie.Need-add-one-more Inv-loop μ-loop
 add-one-more c = omega arith
@@ -42,8 +50,8 @@ shared-slice-read-one-more-2 c = omega arith
 
 one-more-requires-2 : tie.Need-one-more-requires-2 Inv-loop μ-loop
 one-more-requires-2 c κs =
-    let loop = c .before .before .before .before .loop in
-    omega (arith, depths-room 64 (loop .i) (drop 64 (c .before .before .before .before .before .before .args .block .now)) _ (loop .inv .2) .1, depths-room 64 (loop .i) (drop 64 (c .before .before .before .before .before .before .args .block .now)) _ (loop .inv .2) .2 (omega arith))
+    let s = c .before .before .before .before .loop in
+    more (s .i) (drop 64 (c .before .before .before .before .before .before .args .block .now)) _ (omega arith) (s .inv .2)
 
 add-one-more-2 : tie.Need-add-one-more-2 Inv-loop μ-loop
 add-one-more-2 c = omega arith
@@ -56,8 +64,8 @@ shared-slice-read-one-more-3 c = omega arith
 
 one-more-requires-3 : tie.Need-one-more-requires-3 Inv-loop μ-loop
 one-more-requires-3 c κs =
-    let loop = c .before .before .before .before .before .before .loop in
-    omega (arith, depths-room 64 (loop .i) (drop 128 (c .before .before .before .before .before .before .before .before .args .block .now)) _ (loop .inv .3) .1, depths-room 64 (loop .i) (drop 128 (c .before .before .before .before .before .before .before .before .args .block .now)) _ (loop .inv .3) .2 (omega arith))
+    let s = c .before .before .before .before .before .before .loop in
+    more (s .i) (drop 128 (c .before .before .before .before .before .before .before .before .args .block .now)) _ (omega arith) (s .inv .3)
 
 add-one-more-3 : tie.Need-add-one-more-3 Inv-loop μ-loop
 add-one-more-3 c = omega arith
@@ -70,8 +78,8 @@ shared-slice-read-one-more-4 c = omega arith
 
 one-more-requires-4 : tie.Need-one-more-requires-4 Inv-loop μ-loop
 one-more-requires-4 c κs =
-    let loop = c .before .before .before .before .before .before .before .before .loop in
-    omega (arith, depths-room 64 (loop .i) (drop 192 (c .before .before .before .before .before .before .before .before .before .before .args .block .now)) _ (loop .inv .4) .1, depths-room 64 (loop .i) (drop 192 (c .before .before .before .before .before .before .before .before .before .before .args .block .now)) _ (loop .inv .4) .2 (omega arith))
+    let s = c .before .before .before .before .before .before .before .before .loop in
+    more (s .i) (drop 192 (c .before .before .before .before .before .before .before .before .before .before .args .block .now)) _ (omega arith) (s .inv .4)
 
 add-i : tie.Need-add-i Inv-loop μ-loop
 add-i c = omega arith

@@ -1,3 +1,6 @@
+-- `reading::passing::count_events` meets its contract: the loop keeps the counts of the events that were seen, each at most one an
+-- event, and that none of them is above the largest.
+-- Assumes nothing.
 use borrow.Author.Needs.{needs}
 use mathlib.Core.Path.{_≡_, refl, sym, _∙_}
 use Prim.Native.Nat.{ℕ, _-_, _≤_, _<_}

@@ -1,3 +1,5 @@
+-- `reading::passing::joined` meets its contract: it sets the fields that the definition sets.
+-- Assumes nothing.
 use borrow.Author.Needs.{needs}
 use Rattle.reading.specs.PassingOver.{joined}
 use Rattle.reading.proofs.passing.joined.Statement.{statement}

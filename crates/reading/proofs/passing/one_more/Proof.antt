@@ -1,3 +1,5 @@
+-- `reading::passing::one_more` meets its contract: it sets the fields that the definition sets.
+-- Assumes nothing.
 use borrow.Author.Needs.{needs}
 use Rattle.reading.specs.PassingOver.{oneMore}
 use Rattle.reading.proofs.passing.one_more.Statement.{statement}

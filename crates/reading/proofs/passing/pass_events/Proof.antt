@@ -1,3 +1,5 @@
+-- `reading::passing::pass_events` meets its contract: the loop keeps that what was seen is known and ends no level.
+-- Assumes nothing.
 use borrow.Author.Needs.{needs}
 use mathlib.Core.Path.{_≡_, refl}
 use Prim.Native.Nat.{_-_, _≤_}

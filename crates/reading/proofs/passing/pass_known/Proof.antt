@@ -1,3 +1,6 @@
+-- `reading::passing::pass_known` meets its contract: a skip depth outlasts closes that are no more, and a block whose lowest
+-- depth is not below zero is passed over by its depths.
+-- Assumes nothing.
 use borrow.Author.Needs.{needs}
 use mathlib.Core.Path.{_≡_}
 use Prim.Native.Nat.{_+_, _-_}

@@ -1,3 +1,5 @@
+-- `reading::passing::pass_over` meets its contract: the loop keeps `Passes`, by what is passed over of each block.
+-- Assumes nothing.
 use Prim.Native.Nat.{_+_, _-_, _≤_, _<_}
 use native.Mathlib.Omega.{arith}
 use lib.ListN.{drop, length-take}
