@@ -2,6 +2,7 @@ pub mod Turned
 pub mod Steps
 pub mod OneTurn
 pub mod Checks
+pub mod Counting
 pub mod PassesOn
 pub mod WholeRead
 pub mod OneOutcome

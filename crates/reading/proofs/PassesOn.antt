@@ -7,8 +7,8 @@ use mathlib.Core.List.{List}
 use Prim.Native.Nat.{ℕ, zero, suc, _+_, _-_, _≤_, _<_}
 use native.Mathlib.Numerals.{add-one}
 use native.Mathlib.Omega.{arith}
-use borrow.Author.Tests.{lt-ltb, lt-leb, eq-eqb, ne-eqb}
-use lib.ListN.{length, getD, drop}
+use borrow.Author.Tests.{lt-ltb, lt-leb}
+use lib.ListN.{length, getD, take, drop}
 use lib.Seq.{drop-cons}
 use Rattle.meaning.specs.Answers.{given}
 use Rattle.meaning.specs.RuleFile.{Rule}
@@ -18,32 +18,11 @@ use Rattle.meaning.specs.Calls.{topOf, storedAfter, storeStep}
 use Rattle.meaning.specs.declared.Level.{Level}
 use Rattle.meaning.specs.declared.Reading.{Reading}
 use Rattle.meaning.proofs.FeedLaws.{feed-taken}
-use Rattle.meaning.proofs.Answered.{if-true, if-false, refuse-passes, giving-passes}
+use Rattle.meaning.proofs.Answered.{if-true, refuse-passes, giving-passes}
 use Rattle.reading.specs.Feeding.{over}
-use Rattle.reading.specs.PassingOver.{openings, closings, passedOn, PassesOver}
+use Rattle.reading.specs.PassingOver.{openings, closings, unknowns, total, Passing, passedOn, PassesOver}
 use Rattle.reading.specs.declared.PassedOver.{PassedOver}
-
--- ---- the trees that an event opens and closes
-
-pub opens-one : (e : ℕ) → e ≡ 0 → openings e ≡ 1
-unfolding openings
-opens-one e h = if-true 1 0 (eq-eqb e 0 h)
-
-pub opens-none : (e : ℕ) → (e ≡ 0 → ⊥) → openings e ≡ 0
-unfolding openings
-opens-none e h = if-false 1 0 (ne-eqb e 0 h)
-
-pub closes-one : (e : ℕ) → e ≡ 1 → closings e ≡ 1
-unfolding closings
-closes-one e h = if-true 1 0 (eq-eqb e 1 h)
-
-pub closes-none : (e : ℕ) → (e ≡ 1 → ⊥) → closings e ≡ 0
-unfolding closings
-closes-none e h = if-false 1 0 (ne-eqb e 1 h)
-
-pub opens-few : (e : ℕ) → openings e ≤ 1
-opens-few zero = omega (arith, opens-one 0 refl)
-opens-few (suc e) = omega (arith, opens-none (suc e) (omega arith))
+use Rattle.reading.proofs.Counting.{opens-one, opens-none, opens-few, closes-one, closes-none, known-cons, passing-nil, passing-cons}
 
 -- ---- one event
 
@@ -137,6 +116,22 @@ module _ (k : ℕ) (r : Reading) (events : List ℕ) (from : ℕ) where
             (feed-taken _ _ (pass-step R book ceiling at store e (on-settled book r store skip (i - from) is) more (rw letters known) h))
             ∙ ap (λ s. feedBy (storeStep R book ceiling) (over s store) (drop (i + 1) events)) (on-more r skip next (i - from) (i + 1 - from) (omega (arith, p .further))));
       }
+
+  -- a run that is passed over by counting
+  pub passes-run : (n skip skip′ i : ℕ) → Passes skip i → i + n ≤ length events → r .taken + (i + n - from) ≤ mostEvents
+      → total (unknowns (k + 2)) (take n (drop i events)) ≡ 0 → Passing skip (take n (drop i events)) skip′ → Passes skip′ (i + n)
+  passes-run zero skip skip′ i p within limit known q =
+      let n : i + 0 ≡ i = omega arith in
+      rw (n, ← passing-nil q) p
+  passes-run (suc n) skip skip′ i p within limit known q =
+      let inside : i < length events = omega arith in
+      let split = drop-cons events i 0 inside in
+      let is = known-cons (k + 2) _ _ (rw split at known) in
+      let one = passing-cons (rw split at q) in
+      let m : i + suc n ≡ i + 1 + n = omega arith in
+      rw m
+      (passes-run n _ skip′ (i + 1) (passes-on skip i p inside (omega (arith, p .further)) (is .0) (one .0)) (omega arith) (omega arith)
+      (rw (add-one i) (is .1)) (rw (add-one i) (one .1)))
 
   -- where passing over was left
   pub passes-left : (skip i : ℕ) (p : PassedOver) → Passes skip i → (p .reading ≡ passedOn r skip (i - from)) × (p .next ≡ i)
