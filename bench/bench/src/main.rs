@@ -4,6 +4,7 @@
 
 #![forbid(unsafe_code)]
 
+mod agrees;
 mod inputs;
 mod plain;
 mod report;
@@ -25,6 +26,7 @@ fn main() -> ExitCode {
         eprintln!("usage: bench FILE");
         return ExitCode::from(2);
     };
+    agrees::ask();
     let report = Report {
         repetitions: REPETITIONS,
         full: full_reading(),
