@@ -11,7 +11,7 @@ mod report;
 mod timing;
 
 use host::{Store, ANSWER};
-use reader::{Fed, Level, Outcome, Reading, Rule};
+use reader::{stream, Fed, Level, Outcome, Reading, Rule};
 use report::{Call, Full, Passing, Report};
 use std::process::ExitCode;
 use timing::medians;
@@ -93,7 +93,7 @@ fn full_reading() -> Vec<Full> {
             let mut linked = Store::new(&levels);
             let (mut with_book, mut alone) = (levels.clone(), levels);
 
-            let expected = reader::feed(&file, &zeros, fresh, &mut with_book, &events, LARGEST);
+            let expected = stream::feed(&file, &zeros, fresh, &mut with_book, &events, LARGEST);
             assert_eq!(expected.outcome, Outcome::AllTaken);
             assert_eq!(expected.reading.looks as usize, size);
             assert_eq!(feed_linked(&file, &zeros, fresh, &mut linked, &events), expected);
@@ -146,13 +146,13 @@ fn passing_over() -> Vec<Passing> {
             let (mut linked, mut linked_full) = (Store::new(&levels), Store::new(&levels));
             let mut plainly = levels;
 
-            let expected = reader::feed(&file, &book, fresh, &mut plainly, &events, LARGEST);
+            let expected = stream::feed(&file, &book, fresh, &mut plainly, &events, LARGEST);
             assert_eq!(expected.outcome, Outcome::AllTaken);
             assert_eq!(expected.reading.looks, 1);
             assert_eq!(feed_linked(&file, &book, fresh, &mut linked, &events), expected);
             let fed = plain::feed(&file, &book, fresh, &mut plainly, &events, LARGEST);
             assert_eq!(fed, expected);
-            let full = reader::feed(&file, &zeros, fresh, &mut plainly, &events, LARGEST);
+            let full = stream::feed(&file, &zeros, fresh, &mut plainly, &events, LARGEST);
             assert_eq!(full.outcome, Outcome::AllTaken);
             assert_eq!(full.reading.looks as usize, size);
             assert_eq!(feed_linked(&file, &zeros, fresh, &mut linked_full, &events), full);
