@@ -2,6 +2,10 @@
 //! other, the maker with a vector of marks or with words. Written as one would
 //! without a proof in mind, and checked against the second reading before anything
 //! is measured.
+//!
+//! [`feed`] takes what the proved call takes and answers what it answers: the goal
+//! for full reading is measured against it. [`read_in_full`] has less to do and is
+//! there for information.
 
 use reader::{Fed, Level, Outcome, Reading, Refusal};
 
@@ -95,7 +99,7 @@ fn bit(word: u64, state: u8) -> bool {
     word >> state & 1 == 1
 }
 
-/// Feeding, with a book.
+/// Feeding: any book, reading, level store and ceiling.
 pub fn feed(
     file: &[u8],
     book: &[u64],
