@@ -1,35 +1,41 @@
-//! `bench FILE`: the proved calls against plain safe Rust of the same answers and
+//! `bench [FILE]`: the proved calls against plain safe Rust of the same answers and
 //! against a plain sum over what is read, side by side in one run. The tables are
-//! written into FILE, between its lines `<!-- measured -->` and `<!-- end -->`.
+//! printed, or written into FILE, between its lines `<!-- measured -->` and
+//! `<!-- end -->`.
 
 #![forbid(unsafe_code)]
 
+mod agrees;
 mod inputs;
 mod plain;
 mod report;
 mod timing;
 
 use host::{Store, ANSWER};
-use reader::{Fed, Level, Outcome, Reading, Rule};
+use reader::{stream, Fed, Level, Outcome, Reading, Rule};
 use report::{Call, Full, Passing, Report};
 use std::process::ExitCode;
-use timing::medians;
+use timing::least;
 
 const SIZES: [usize; 4] = [10_000, 100_000, 1_000_000, 10_000_000];
-const REPETITIONS: usize = 15;
+/// All rows are measured so often, one pass after the other, so that a time in which
+/// the machine is busy with something else falls on no row alone.
+const PASSES: usize = 5;
+/// How often in each pass.
+const REPETITIONS: usize = 5;
 const LARGEST: u32 = u32::MAX;
 
 fn main() -> ExitCode {
     let arguments: Vec<String> = std::env::args().skip(1).collect();
-    let [path] = &arguments[..] else {
-        eprintln!("usage: bench FILE");
+    if arguments.len() > 1 {
+        eprintln!("usage: bench [FILE]");
         return ExitCode::from(2);
-    };
-    let report = Report {
-        repetitions: REPETITIONS,
-        full: full_reading(),
-        passing: passing_over(),
-        calls: single_calls(),
+    }
+    agrees::ask();
+    let report = (1..PASSES).fold(measured(), |report, _| report.least(measured()));
+    let Some(path) = arguments.first() else {
+        print!("{}", report.markdown());
+        return ExitCode::SUCCESS;
     };
     match report.write_into(path) {
         Ok(()) => ExitCode::SUCCESS,
@@ -37,6 +43,15 @@ fn main() -> ExitCode {
             eprintln!("bench: {path}: {message}");
             ExitCode::FAILURE
         }
+    }
+}
+
+fn measured() -> Report {
+    Report {
+        repetitions: REPETITIONS,
+        full: full_reading(),
+        passing: passing_over(),
+        calls: single_calls(),
     }
 }
 
@@ -89,17 +104,17 @@ fn full_reading() -> Vec<Full> {
             let events = generate(rule.k, size);
             let levels = vec![Level::default(); 64];
             let mut linked = Store::new(&levels);
-            let (mut with_book, mut alone) = (levels.clone(), levels);
+            let (mut plainly, mut alone) = (levels.clone(), levels);
 
-            let expected = reader::feed(&file, &zeros, fresh, &mut with_book, &events, LARGEST);
+            let expected = stream::feed(&file, &zeros, fresh, &mut plainly, &events, LARGEST);
             assert_eq!(expected.outcome, Outcome::AllTaken);
             assert_eq!(expected.reading.looks as usize, size);
             assert_eq!(feed_linked(&file, &zeros, fresh, &mut linked, &events), expected);
-            let plainly = plain::feed(&file, &zeros, fresh, &mut with_book, &events, LARGEST);
-            assert_eq!(plainly, expected);
+            let fed = plain::feed(&file, &zeros, fresh, &mut plainly, &events, LARGEST);
+            assert_eq!(fed, expected);
             assert_eq!(plain::read_in_full(&file, &mut alone, &events), expected);
 
-            let [proved, with_book, alone, sum] = medians(
+            let [proved, safe, alone, sum] = least(
                 REPETITIONS,
                 calls_for(size),
                 [
@@ -107,7 +122,7 @@ fn full_reading() -> Vec<Full> {
                         feed_linked(&file, &zeros, fresh, &mut linked, &events).reading.looks as u64
                     },
                     &mut || {
-                        let store = &mut with_book;
+                        let store = &mut plainly;
                         let fed = plain::feed(&file, &zeros, fresh, store, &events, LARGEST);
                         fed.reading.looks as u64
                     },
@@ -116,7 +131,7 @@ fn full_reading() -> Vec<Full> {
                 ],
             )
             .map(|time| time / size as f64);
-            rows.push(Full { name, size, proved, with_book, alone, sum });
+            rows.push(Full { name, size, proved, safe, alone, sum });
         }
     }
     rows
@@ -144,18 +159,18 @@ fn passing_over() -> Vec<Passing> {
             let (mut linked, mut linked_full) = (Store::new(&levels), Store::new(&levels));
             let mut plainly = levels;
 
-            let expected = reader::feed(&file, &book, fresh, &mut plainly, &events, LARGEST);
+            let expected = stream::feed(&file, &book, fresh, &mut plainly, &events, LARGEST);
             assert_eq!(expected.outcome, Outcome::AllTaken);
             assert_eq!(expected.reading.looks, 1);
             assert_eq!(feed_linked(&file, &book, fresh, &mut linked, &events), expected);
             let fed = plain::feed(&file, &book, fresh, &mut plainly, &events, LARGEST);
             assert_eq!(fed, expected);
-            let full = reader::feed(&file, &zeros, fresh, &mut plainly, &events, LARGEST);
+            let full = stream::feed(&file, &zeros, fresh, &mut plainly, &events, LARGEST);
             assert_eq!(full.outcome, Outcome::AllTaken);
             assert_eq!(full.reading.looks as usize, size);
             assert_eq!(feed_linked(&file, &zeros, fresh, &mut linked_full, &events), full);
 
-            let [proved, full, safe, sum] = medians(
+            let [proved, full, safe, sum] = least(
                 REPETITIONS,
                 calls_for(size),
                 [
@@ -200,7 +215,7 @@ fn single_calls() -> Vec<Call> {
         assert_eq!(plain::make_book_by_marks(&file, marks), Ok(still));
         assert!([&*linked, words, marks].iter().all(|book| **book == expected));
 
-        let [proved, by_words, by_marks, sum] = medians(
+        let [proved, by_words, by_marks, sum] = least(
             REPETITIONS,
             20,
             [
@@ -222,7 +237,7 @@ fn single_calls() -> Vec<Call> {
     let mut answer = [0; ANSWER];
     assert!(host::check_rule(&file, &mut answer));
     assert_eq!(answer[..6], [0, 0, 64, 0, 1, 256]);
-    let [proved, safe, sum] = medians(
+    let [proved, safe, sum] = least(
         REPETITIONS,
         200,
         [

@@ -2,6 +2,10 @@
 //! other, the maker with a vector of marks or with words. Written as one would
 //! without a proof in mind, and checked against the second reading before anything
 //! is measured.
+//!
+//! [`feed`] takes what the proved call takes and answers what it answers: the goal
+//! for full reading is measured against it. [`read_in_full`] has less to do and is
+//! there for information.
 
 use reader::{Fed, Level, Outcome, Reading, Refusal};
 
@@ -95,7 +99,7 @@ fn bit(word: u64, state: u8) -> bool {
     word >> state & 1 == 1
 }
 
-/// Feeding, with a book.
+/// Feeding: any book, reading, level store and ceiling.
 pub fn feed(
     file: &[u8],
     book: &[u64],
@@ -119,13 +123,68 @@ pub fn feed(
     if !is_reading(&table, book, &reading, store) {
         return refused(0, reading, 13, 0);
     }
-    let mut now = reading;
-    for (took, &event) in events.iter().enumerate() {
-        if let Err(number) = take(&table, book, &mut now, store, event, ceiling) {
-            return refused(took, now, number, now.taken as u64);
+    let Reading { mut state, mut depth, mut skip, mut taken, mut looks } = reading;
+    let before = taken;
+    let mut outcome = Outcome::AllTaken;
+    for &event in events {
+        let stop = |number| Outcome::Refused(Refusal::new(number, taken as u64));
+        if taken == u32::MAX {
+            outcome = stop(16);
+            break;
         }
+        if event as usize >= table.k + 2 {
+            outcome = stop(10);
+            break;
+        }
+        if event == CLOSE && depth == 0 && skip == 0 {
+            outcome = stop(7);
+            break;
+        }
+        let upper = if depth > 0 { store[depth as usize - 1].state } else { NONE };
+        let held = depth > 0 && bit(book[1 + upper as usize], state);
+        let settled = held || bit(book[0], state);
+        if settled && (event != CLOSE || skip > 0) {
+            match event {
+                OPEN => skip += 1,
+                CLOSE => skip -= 1,
+                _ => {}
+            }
+        } else if held {
+            state = upper;
+            depth -= 1;
+        } else {
+            if event == OPEN && depth as usize >= store.len() {
+                outcome = stop(8);
+                break;
+            }
+            if looks >= ceiling {
+                outcome = stop(9);
+                break;
+            }
+            let to = match event {
+                OPEN => table.tree_start,
+                CLOSE => table.tree_move(upper, state),
+                _ => table.letter_move(state, event as usize - 2),
+            };
+            if to == NONE {
+                outcome = stop(11);
+                break;
+            }
+            match event {
+                OPEN => {
+                    store[depth as usize] = Level { state, place: taken };
+                    depth += 1;
+                }
+                CLOSE => depth -= 1,
+                _ => {}
+            }
+            state = to;
+            looks += 1;
+        }
+        taken += 1;
     }
-    Fed { took: events.len(), reading: now, outcome: Outcome::AllTaken }
+    let reading = Reading { state, depth, skip, taken, looks };
+    Fed { took: (taken - before) as usize, reading, outcome }
 }
 
 fn is_reading(table: &Table, book: &[u64], reading: &Reading, store: &[Level]) -> bool {
@@ -142,78 +201,6 @@ fn is_reading(table: &Table, book: &[u64], reading: &Reading, store: &[Level]) -
     }
     let nesting = reading.depth as u64 + reading.skip as u64;
     nesting <= reading.taken as u64 && reading.looks <= reading.taken
-}
-
-/// One event.
-fn take(
-    table: &Table,
-    book: &[u64],
-    now: &mut Reading,
-    store: &mut [Level],
-    event: u16,
-    ceiling: u32,
-) -> Result<(), u8> {
-    if now.taken == u32::MAX {
-        return Err(16);
-    }
-    if event as usize >= table.k + 2 {
-        return Err(10);
-    }
-    let depth = now.depth as usize;
-    if event == CLOSE && depth == 0 && now.skip == 0 {
-        return Err(7);
-    }
-
-    let upper = if depth > 0 { Some(store[depth - 1].state) } else { None };
-    let held = upper.is_some_and(|u| bit(book[1 + u as usize], now.state));
-    if held || bit(book[0], now.state) {
-        if event == OPEN {
-            now.skip += 1;
-            now.taken += 1;
-            return Ok(());
-        }
-        if event != CLOSE {
-            now.taken += 1;
-            return Ok(());
-        }
-        if now.skip > 0 {
-            now.skip -= 1;
-            now.taken += 1;
-            return Ok(());
-        }
-        if let (true, Some(u)) = (held, upper) {
-            now.state = u;
-            now.depth -= 1;
-            now.taken += 1;
-            return Ok(());
-        }
-    }
-
-    if event == OPEN && depth >= store.len() {
-        return Err(8);
-    }
-    if now.looks >= ceiling {
-        return Err(9);
-    }
-    let to = match (event, upper) {
-        (OPEN, _) => table.tree_start,
-        (CLOSE, Some(u)) => table.tree_move(u, now.state),
-        (CLOSE, None) => return Err(7),
-        _ => table.letter_move(now.state, event as usize - 2),
-    };
-    if to == NONE {
-        return Err(11);
-    }
-    if event == OPEN {
-        store[depth] = Level { state: now.state, place: now.taken };
-        now.depth += 1;
-    } else if event == CLOSE {
-        now.depth -= 1;
-    }
-    now.state = to;
-    now.looks += 1;
-    now.taken += 1;
-    Ok(())
 }
 
 /// Full reading alone, from a fresh reading and with no book in sight: what one

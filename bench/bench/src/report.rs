@@ -7,7 +7,8 @@ pub struct Full {
     pub name: &'static str,
     pub size: usize,
     pub proved: f64,
-    pub with_book: f64,
+    pub safe: f64,
+    /// Safe Rust that never skips.
     pub alone: f64,
     pub sum: f64,
 }
@@ -31,7 +32,22 @@ pub struct Call {
     pub sum: f64,
 }
 
+/// The least of each figure in two lots of the same rows.
+fn least_of<Row>(
+    mut rows: Vec<Row>,
+    others: Vec<Row>,
+    figures: fn(&mut Row) -> Vec<&mut f64>,
+) -> Vec<Row> {
+    for (row, mut other) in rows.iter_mut().zip(others) {
+        for (figure, other) in figures(row).into_iter().zip(figures(&mut other)) {
+            *figure = figure.min(*other);
+        }
+    }
+    rows
+}
+
 pub struct Report {
+    /// How many repetitions each figure is the least of.
     pub repetitions: usize,
     pub full: Vec<Full>,
     pub passing: Vec<Passing>,
@@ -42,7 +58,23 @@ const BEGIN: &str = "<!-- measured -->\n";
 const END: &str = "<!-- end -->\n";
 
 impl Report {
-    /// Puts the tables between the two lines of the file.
+    /// The same rows, measured at two times.
+    pub fn least(self, other: Report) -> Report {
+        Report {
+            repetitions: self.repetitions + other.repetitions,
+            full: least_of(self.full, other.full, |row| {
+                vec![&mut row.proved, &mut row.safe, &mut row.alone, &mut row.sum]
+            }),
+            passing: least_of(self.passing, other.passing, |row| {
+                vec![&mut row.proved, &mut row.full, &mut row.safe, &mut row.sum]
+            }),
+            calls: least_of(self.calls, other.calls, |row| {
+                vec![&mut row.proved, &mut row.plain, &mut row.sum]
+            }),
+        }
+    }
+
+    /// Puts the tables between two lines of the file.
     pub fn write_into(&self, path: &str) -> Result<(), String> {
         let text = std::fs::read_to_string(path).map_err(|error| error.to_string())?;
         let (before, rest) = text.split_once(BEGIN).ok_or("no line says where to begin")?;
@@ -51,7 +83,7 @@ impl Report {
         std::fs::write(path, text).map_err(|error| error.to_string())
     }
 
-    fn markdown(&self) -> String {
+    pub fn markdown(&self) -> String {
         let mut text = String::new();
         self.write(&mut text).expect("a string takes what is written");
         text
@@ -60,26 +92,28 @@ impl Report {
     fn write(&self, text: &mut String) -> std::fmt::Result {
         writeln!(
             text,
-            "Processor: {}. Medians of {} repetitions, in which the columns take turns.\n",
+            "Processor: {} ({}). The least time of {} repetitions, in which the columns take turns.\n",
             processor(),
+            std::env::consts::ARCH,
             self.repetitions
         )?;
 
         writeln!(text, "### Full reading, nanoseconds for an event\n")?;
-        writeln!(text, "| input | events | proved | safe Rust with a book | its time / proved | safe Rust, full reading alone | its time / proved | plain sum |")?;
-        writeln!(text, "|---|---:|---:|---:|---:|---:|---:|---:|")?;
+        writeln!(text, "| input | events | proved | safe Rust | its time / proved | plain sum | proved / sum | for information: safe Rust that never skips | its time / proved |")?;
+        writeln!(text, "|---|---:|---:|---:|---:|---:|---:|---:|---:|")?;
         for row in &self.full {
             writeln!(
                 text,
-                "| {} | {} | {:.2} | {:.2} | {:.2} | {:.2} | {:.2} | {:.3} |",
+                "| {} | {} | {:.2} | {:.2} | {:.2} | {:.3} | {:.1} | {:.2} | {:.2} |",
                 row.name,
                 counted(row.size),
                 row.proved,
-                row.with_book,
-                row.with_book / row.proved,
+                row.safe,
+                row.safe / row.proved,
+                row.sum,
+                row.proved / row.sum,
                 row.alone,
-                row.alone / row.proved,
-                row.sum
+                row.alone / row.proved
             )?;
         }
 
@@ -129,8 +163,7 @@ impl Report {
 
     fn goals(&self) -> Vec<(&'static str, String, bool)> {
         let least = |ratios: Vec<f64>| ratios.into_iter().fold(f64::INFINITY, f64::min);
-        let with_book = least(self.full.iter().map(|row| row.with_book / row.proved).collect());
-        let alone = least(self.full.iter().map(|row| row.alone / row.proved).collect());
+        let safe = least(self.full.iter().map(|row| row.safe / row.proved).collect());
         let deep: Vec<&Passing> =
             self.passing.iter().filter(|row| row.name == "a deep part").collect();
         let times_sum =
@@ -140,14 +173,9 @@ impl Report {
         let maker = makers.map(|row| row.proved).fold(0.0, f64::max) / 1_000_000.0;
         vec![
             (
-                "full reading at least as fast as safe Rust with a book",
-                format!("safe Rust takes {with_book:.2} times as long"),
-                with_book >= 1.0,
-            ),
-            (
-                "full reading at least as fast as safe Rust that never skips",
-                format!("safe Rust takes {alone:.2} times as long"),
-                alone >= 1.0,
+                "full reading at least as fast as the safe Rust",
+                format!("safe Rust takes {safe:.2} times as long"),
+                safe >= 1.0,
             ),
             (
                 "passing over a deep part within twice the memory limit",

@@ -1,5 +1,5 @@
-//! The second mode: the proved calls, linked into this program, so that single
-//! calls with any book, reading, level store and ceiling can be asked.
+//! The proved calls, linked into this program, so that single calls with any book,
+//! reading, level store and ceiling can be asked.
 //!
 //! A call is asked with the same arguments here and there, and all that it leaves
 //! must agree: whether the answer fitted, the answer's numbers, the output's bytes,
@@ -7,6 +7,7 @@
 //! too.
 
 use crate::disagreements;
+use crate::tally::{Can, Tally, FEED, FINISH, MAKER, RULE, WHOLE, WRITER};
 use generate::calls::{random_call, random_writing, Call, Writing};
 use generate::damage::damaged;
 use generate::rules::random_rule;
@@ -14,7 +15,6 @@ use generate::{Inputs, Prng};
 use host::{Store, Tables, ANSWER};
 use reader::check::take_apart;
 use reader::{End, Fed, Level, Outcome, Reading, Refusal, Rule};
-use std::collections::BTreeMap;
 use std::fmt::Debug;
 use std::time::Instant;
 
@@ -69,21 +69,19 @@ fn end_numbers(end: End) -> Vec<u64> {
     }
 }
 
-/// The calls compared, counted by their names.
-struct Comparison {
+/// The arguments of an index are asked here and there.
+struct Comparison<'a> {
     seed: u64,
     index: u64,
-    agreements: BTreeMap<&'static str, u64>,
-    /// How often each number was given, 0 for none.
-    given: BTreeMap<u64, u64>,
-    too_short: u64,
+    tally: &'a mut Tally,
 }
 
-impl Comparison {
+impl Comparison<'_> {
     /// What the call left against what the second reading says.
     fn same(
         &mut self,
         name: &'static str,
+        can: Can,
         arguments: &dyn Debug,
         expected: Left,
         found: Left,
@@ -98,12 +96,7 @@ impl Comparison {
             );
             return Err(format!("arguments {} of seed {}: {name}; {saved}", self.index, self.seed));
         }
-        *self.agreements.entry(name).or_default() += 1;
-        if expected.fitted {
-            *self.given.entry(expected.answer[0]).or_default() += 1;
-        } else {
-            self.too_short += 1;
-        }
+        self.tally.add(name, can, expected.fitted.then(|| expected.answer[0]));
         Ok(())
     }
 
@@ -116,7 +109,7 @@ impl Comparison {
         let mut answer = held.to_vec();
         let fitted = host::check_rule(file, &mut answer);
         let found = Left { fitted, answer, ..Left::default() };
-        self.same("rule check", &(file, held), expected, found)
+        self.same("rule check", RULE, &(file, held), expected, found)
     }
 
     fn fresh(&mut self, file: &[u8], held: &[u64]) -> Result<(), String> {
@@ -124,7 +117,7 @@ impl Comparison {
         let mut answer = held.to_vec();
         let fitted = host::fresh(file, &mut answer);
         let found = Left { fitted, answer, ..Left::default() };
-        self.same("fresh", &(file, held), expected, found)
+        self.same("fresh", RULE, &(file, held), expected, found)
     }
 
     fn make_book(&mut self, file: &[u8], book: &[u64], held: &[u64]) -> Result<(), String> {
@@ -135,7 +128,7 @@ impl Comparison {
         let (mut book_after, mut answer) = (book.to_vec(), held.to_vec());
         let fitted = host::make_book(file, &mut book_after, &mut answer);
         let found = Left { fitted, answer, book: book_after, ..Left::default() };
-        self.same("maker", &(file, book, held), expected, found)
+        self.same("maker", MAKER, &(file, book, held), expected, found)
     }
 
     fn write_rule(&mut self, writing: &Writing, output: &[u8], held: &[u64]) -> Result<(), String> {
@@ -164,23 +157,15 @@ impl Comparison {
         let (mut output_after, mut answer) = (output.to_vec(), held.to_vec());
         let fitted = host::write_rule(tables, &mut output_after, &mut answer);
         let found = Left { fitted, answer, output: output_after, ..Left::default() };
-        self.same("writer", &(writing, output, held), expected, found)
+        self.same("writer", WRITER, &(writing, output, held), expected, found)
     }
 
     /// Feeding, and finishing what it was given and what it left.
     fn feed_and_finish(&mut self, call: &Call, held: &[u64]) -> Result<(), String> {
-        let mut store = call.store.clone();
-        let fed = reader::feed(
-            &call.rule_file,
-            &call.book,
-            call.reading,
-            &mut store,
-            &call.events,
-            call.ceiling,
-        );
+        let (fed, store) = feed_second(call);
         let expected = Left { store: store.clone(), ..Left::by(fed_numbers(fed), held) };
         let found = feed_linked(call, call.reading, &call.store, &call.events, held);
-        self.same("feed", &(call, held), expected, found)?;
+        self.same("feed", FEED, &(call, held), expected, found)?;
         self.finish(call, call.reading, &call.store, held)?;
         self.finish(call, fed.reading, &store, held)
     }
@@ -198,29 +183,27 @@ impl Comparison {
         let (lent, mut answer) = (Store::new(store), held.to_vec());
         let fitted = host::finish(file, book, reading, &lent, &mut answer);
         let found = Left { fitted, answer, store: lent.levels(), ..Left::default() };
-        self.same("finish", &(file, book, reading, store, held), expected, found)
+        self.same("finish", FINISH, &(file, book, reading, store, held), expected, found)
     }
 
-    /// The first events and then the rest against all at once: the linked calls
-    /// against themselves, where the first feed is not refused.
-    fn split_feeds(&mut self, call: &Call, first: usize) -> Result<(), String> {
+    /// Feeding part after part, each from where the one before it left off, until
+    /// one is refused: as feeding all at once.
+    fn split_feeds(&mut self, call: &Call, parts: &[&[u16]]) -> Result<(), String> {
         let held = [0; ANSWER];
-        let (front, rest) = call.events.split_at(first);
-        let before = feed_linked(call, call.reading, &call.store, front, &held);
-        if before.answer[0] != 0 {
-            return Ok(());
+        let (fed, store) = feed_second(call);
+        let expected = Left { store, ..Left::by(fed_numbers(fed), &held) };
+
+        let mut found = feed_linked(call, call.reading, &call.store, parts[0], &held);
+        for part in &parts[1..] {
+            if found.answer[0] != 0 {
+                break;
+            }
+            let took = found.answer[2];
+            found = feed_linked(call, reading_of(&found.answer), &found.store, part, &held);
+            found.answer[2] += took;
         }
-        let between = Reading {
-            state: before.answer[3] as u8,
-            depth: before.answer[4] as u32,
-            skip: before.answer[5] as u32,
-            taken: before.answer[6] as u32,
-            looks: before.answer[7] as u32,
-        };
-        let mut found = feed_linked(call, between, &before.store, rest, &held);
-        found.answer[2] += before.answer[2];
-        let expected = feed_linked(call, call.reading, &call.store, &call.events, &held);
-        self.same("split feeds", &(call, first), expected, found)
+        let lengths: Vec<usize> = parts.iter().map(|part| part.len()).collect();
+        self.same("split feeds", FEED, &(call, lengths), expected, found)
     }
 
     fn read_document(&mut self, call: &Call, book: &[u64], held: &[u64]) -> Result<(), String> {
@@ -233,7 +216,7 @@ impl Comparison {
         let fitted = host::read_document(file, &mut book_after, &mut lent, events, &mut answer);
         let found =
             Left { fitted, answer, book: book_after, store: lent.levels(), ..Left::default() };
-        self.same("whole document", &(call, book, held), expected, found)
+        self.same("whole document", WHOLE, &(call, book, held), expected, found)
     }
 
     /// All calls, with the arguments of one index.
@@ -242,7 +225,7 @@ impl Comparison {
         let call = random_call(&mut rng);
         let held = random_held(&mut rng);
         self.feed_and_finish(&call, &held)?;
-        self.split_feeds(&call, rng.below(call.events.len() + 1))?;
+        self.split_feeds(&call, &random_parts(&mut rng, &call.events))?;
         self.fresh(&call.rule_file, &held)?;
         let book = random_words(&mut rng, call.book.len());
         self.read_document(&call, &book, &held)?;
@@ -276,11 +259,19 @@ impl Comparison {
                 events: parts.events,
                 ceiling: u32::MAX,
             };
-            self.read_document(&call, &call.book, &[0; ANSWER])?;
             self.feed_and_finish(&call, &[0; ANSWER])?;
+            self.read_document(&call, &call.book, &[0; ANSWER])?;
         }
         Ok(())
     }
+}
+
+/// The second reading's feed, and the level store after it.
+fn feed_second(call: &Call) -> (Fed, Vec<Level>) {
+    let mut store = call.store.clone();
+    let (file, book) = (&call.rule_file, &call.book);
+    let fed = reader::feed(file, book, call.reading, &mut store, &call.events, call.ceiling);
+    (fed, store)
 }
 
 /// The linked feed, with the rule, book and ceiling of a call.
@@ -304,6 +295,33 @@ fn feed_linked(
     Left { fitted, answer, store: lent.levels(), ..Left::default() }
 }
 
+/// The reading in the answer of a feed.
+fn reading_of(answer: &[u64]) -> Reading {
+    Reading {
+        state: answer[3] as u8,
+        depth: answer[4] as u32,
+        skip: answer[5] as u32,
+        taken: answer[6] as u32,
+        looks: answer[7] as u32,
+    }
+}
+
+/// The events in two parts, in several, or one by one; parts may be empty.
+fn random_parts<'a>(rng: &mut Prng, events: &'a [u16]) -> Vec<&'a [u16]> {
+    if events.len() < 60 && !events.is_empty() && rng.chance(30) {
+        return events.chunks(1).collect();
+    }
+    let mut parts = Vec::new();
+    let mut rest = events;
+    for _ in 0..rng.pick(&[1, 1, 1, 2, 4, 7]) {
+        let (part, after) = rest.split_at(rng.below(rest.len() + 1));
+        parts.push(part);
+        rest = after;
+    }
+    parts.push(rest);
+    parts
+}
+
 /// What a lent answer holds before a call; too short at times.
 fn random_held(rng: &mut Prng) -> Vec<u64> {
     let length = if rng.chance(90) { rng.between(ANSWER, 11) } else { rng.below(ANSWER) };
@@ -315,30 +333,16 @@ fn random_words(rng: &mut Prng, count: usize) -> Vec<u64> {
 }
 
 /// The arguments 0 to `count`−1 of the seed, after the printed cases.
-pub fn run(count: u64, seed: u64) -> Result<(), String> {
+pub fn run(count: u64, seed: u64, tally: &mut Tally) -> Result<(), String> {
     let began = Instant::now();
-    let mut comparison = Comparison {
-        seed,
-        index: 0,
-        agreements: BTreeMap::new(),
-        given: BTreeMap::new(),
-        too_short: 0,
-    };
+    let mut comparison = Comparison { seed, index: 0, tally };
     comparison.ask_printed()?;
     for index in 0..count {
         comparison.index = index;
         comparison.ask()?;
     }
-    for (name, agreements) in &comparison.agreements {
-        println!("{name}: {agreements}");
-    }
-    let given: Vec<String> =
-        comparison.given.iter().map(|(number, times)| format!("{number}: {times}")).collect();
-    println!("numbers given, 0 for none: {}", given.join(", "));
-    println!("answers too short: {}", comparison.too_short);
     println!(
-        "{} agreements ({count} arguments of seed {seed}, {:.1} s)",
-        comparison.agreements.values().sum::<u64>(),
+        "the linked calls: {count} arguments of seed {seed}, {:.0} s",
         began.elapsed().as_secs_f64()
     );
     Ok(())

@@ -1,7 +1,8 @@
-//! `compare COUNT SEED PROGRAM`: the second reading against a program.
-//! `compare linked COUNT SEED`: the second reading against the linked calls.
+//! `compare COUNT SEED [PROGRAM [WORD...]]`: the second reading against the linked
+//! calls, each with COUNT arguments, and against a program, if one is named, with
+//! COUNT inputs. The words go to the program: an emulator's are the program it runs.
 //!
-//! The count of agreements is printed. The first disagreement is saved under
+//! The count of agreements is printed last. The first disagreement is saved under
 //! bench/disagreements/ and ends the run with status 1.
 
 #![forbid(unsafe_code)]
@@ -9,39 +10,48 @@
 mod disagreements;
 mod linked;
 mod program;
+mod tally;
 
 use std::path::Path;
 use std::process::ExitCode;
+use tally::Tally;
 
 fn main() -> ExitCode {
     let arguments: Vec<String> = std::env::args().skip(1).collect();
-    let words: Vec<&str> = arguments.iter().map(String::as_str).collect();
-    let (count, seed, program) = match words[..] {
-        ["linked", count, seed] => (count, seed, None),
-        [count, seed, program] => (count, seed, Some(program)),
-        _ => return usage(),
+    let [count, seed, command @ ..] = &arguments[..] else {
+        return usage();
     };
     let (Ok(count), Ok(seed)) = (count.parse(), seed.parse()) else {
         return usage();
     };
-    let compared = match program {
-        None => linked::run(count, seed),
-        Some(path) if Path::new(path).is_file() => program::run(count, seed, path),
-        Some(path) => {
-            eprintln!("compare: no program {path}");
-            return ExitCode::from(2);
+    if let Some(path) = command.first().filter(|path| !Path::new(path).is_file()) {
+        eprintln!("compare: no program {path}");
+        return ExitCode::from(2);
+    }
+    let mut tally = Tally::default();
+    match compare(count, seed, command, &mut tally) {
+        Ok(()) => {
+            println!("{} agreements, no disagreement", tally.agreements());
+            ExitCode::SUCCESS
         }
-    };
-    match compared {
-        Ok(()) => ExitCode::SUCCESS,
         Err(message) => {
+            println!("{} agreements before a failure", tally.agreements());
             eprintln!("compare: {message}");
             ExitCode::FAILURE
         }
     }
 }
 
+fn compare(count: u64, seed: u64, command: &[String], tally: &mut Tally) -> Result<(), String> {
+    if let [path, words @ ..] = command {
+        program::run(count, seed, path, words, tally)?;
+    }
+    linked::run(count, seed, tally)?;
+    tally.print();
+    tally.check(count)
+}
+
 fn usage() -> ExitCode {
-    eprintln!("usage: compare COUNT SEED PROGRAM\n       compare linked COUNT SEED");
+    eprintln!("usage: compare COUNT SEED [PROGRAM [WORD...]]");
     ExitCode::from(2)
 }

@@ -16,7 +16,7 @@ fn the_expected_lines_are_the_second_readings() {
             let input = fs::read(&path).unwrap();
             let expected = fs::read_to_string(path.with_extension("out")).unwrap();
             assert_eq!(reader::check_program(&input), expected, "{}", path.display());
-            assert_eq!(reader::check::check_program_by_hedge(&input), expected);
+            assert_eq!(reader::check::check_program_by(reader::stream::feed, &input), expected);
             count += 1;
         }
     }

@@ -1,7 +1,7 @@
 //! Arguments for the single calls: any book, any reading, any level store, any
 //! ceiling; and arguments for the writer.
 
-use crate::damage::records;
+use crate::damage::{damaged, records};
 use crate::events::random_events;
 use crate::inputs::join;
 use crate::prng::Prng;
@@ -44,7 +44,9 @@ pub fn random_call(rng: &mut Prng) -> Call {
     let sets = Book::of(&rule);
     let book = random_book(rng, &rule, &sets);
     let mut events = random_events(rng, &rule, &sets);
-    events.truncate(2000);
+    if rng.chance(70) {
+        events.truncate(2000);
+    }
     let levels = rng.weighted(&[(10, 0), (10, 1), (15, 2), (15, 4), (50, 2100)]);
     let mut store: Vec<Level> = (0..levels).map(|_| random_level(rng, rule.n)).collect();
     let mut rule_file = rule.to_file();
@@ -66,12 +68,8 @@ pub fn random_call(rng: &mut Prng) -> Call {
         2 => reading.looks.saturating_sub(1),
         _ => u32::MAX,
     };
-    if rng.chance(2) {
-        let at = rng.below(rule_file.len());
-        rule_file[at] = rule_file[at].wrapping_add(rng.pick(&[1, 60, 250]));
-    }
-    if rng.chance(1) {
-        rule_file.truncate(rng.below(rule_file.len()));
+    if rng.chance(4) {
+        rule_file = damaged(rng, &rule_file);
     }
     Call { rule_file, book, reading, store, events, ceiling }
 }
@@ -134,15 +132,16 @@ fn random_reading(rng: &mut Prng, rule: &Rule, book: &[u64], store: &mut [Level]
             (0..rule.n as u8).filter(|&p| (book[0] | upper) >> p & 1 == 1).collect();
         if !settled.is_empty() {
             state = rng.pick(&settled);
-            skip = rng.pick(&[0, 1, 2, 5, 400, 2_000_000_000]);
+            skip = rng.pick(&[0, 1, 2, 5, 400, 2_000_000_000, u32::MAX - 300]);
         }
     }
     let nesting = depth as u32 + skip;
-    let taken = match rng.below(5) {
+    let taken = match rng.below(6) {
         0 => u32::MAX,
         1 => u32::MAX - rng.below(12) as u32,
-        2 => nesting,
-        _ => nesting + rng.below(1000) as u32,
+        2 => (u32::MAX - rng.below(300) as u32).max(nesting),
+        3 => nesting,
+        _ => nesting.saturating_add(rng.below(1000) as u32),
     };
     let looks = rng.word() as u32 % taken.saturating_add(1).max(1);
     let mut reading = Reading { state, depth: depth as u32, skip, taken, looks };

@@ -5,9 +5,10 @@ use generate::events::well_nested;
 use generate::rules::random_rule;
 use generate::{join, rule_and_events, Inputs, Prng};
 use reader::book::reach;
-use reader::check::{check_program_by_hedge, take_apart, LEVELS};
+use reader::calls::{report_by, Feed};
+use reader::check::{check_program_by, take_apart, LEVELS};
 use reader::positions::FullRun;
-use reader::stream::{report_by, Feed};
+use reader::stream::feed;
 use reader::*;
 use std::collections::{BTreeMap, BTreeSet};
 
@@ -39,7 +40,7 @@ fn the_check_program_in_three_ways() {
     for index in 0..many(6000) {
         let input = inputs.get(index);
         let lines = check_program(&input);
-        assert_eq!(lines, check_program_by_hedge(&input), "input {index}");
+        assert_eq!(lines, check_program_by(feed, &input), "input {index}");
         let words: Vec<Vec<&str>> = lines.lines().map(|line| line.split(' ').collect()).collect();
         for line in &words {
             count(line[..if line[1] == "refused" { 3 } else { 2 }].join(" "));

@@ -8,32 +8,12 @@
 //! asked of a caller but that the slices are slices and those written to are apart
 //! from the others, which Rust's references say.
 
-use reader::{Level, Reading};
+mod store;
+
+pub use store::{feed, finish, read_document, Store};
 
 /// Room enough for the answer of every call.
 pub const ANSWER: usize = 8;
-
-/// A level store as the calls are lent it: two slices, the state above each level
-/// and the place of its opening.
-#[derive(Clone, Debug)]
-pub struct Store {
-    states: Vec<u8>,
-    places: Vec<u32>,
-}
-
-impl Store {
-    pub fn new(levels: &[Level]) -> Store {
-        Store {
-            states: levels.iter().map(|level| level.state).collect(),
-            places: levels.iter().map(|level| level.place).collect(),
-        }
-    }
-
-    pub fn levels(&self) -> Vec<Level> {
-        let records = self.states.iter().zip(&self.places);
-        records.map(|(&state, &place)| Level { state, place }).collect()
-    }
-}
 
 /// The numbers and tables that the writer is given.
 #[derive(Clone, Copy, Debug)]
@@ -85,60 +65,6 @@ mod exported {
         pub fn venticapro_fresh(
             file: *const u8,
             file_length: usize,
-            answer: *mut u64,
-            answer_length: usize,
-        ) -> bool;
-
-        pub fn venticapro_feed(
-            file: *const u8,
-            file_length: usize,
-            book: *const u64,
-            book_length: usize,
-            ceiling: u32,
-            state: u8,
-            depth: u32,
-            skip: u32,
-            taken: u32,
-            looks: u32,
-            states: *mut u8,
-            states_length: usize,
-            places: *mut u32,
-            places_length: usize,
-            events: *const u16,
-            events_length: usize,
-            answer: *mut u64,
-            answer_length: usize,
-        ) -> bool;
-
-        pub fn venticapro_finish(
-            file: *const u8,
-            file_length: usize,
-            book: *const u64,
-            book_length: usize,
-            state: u8,
-            depth: u32,
-            skip: u32,
-            taken: u32,
-            looks: u32,
-            states: *const u8,
-            states_length: usize,
-            places: *const u32,
-            places_length: usize,
-            answer: *mut u64,
-            answer_length: usize,
-        ) -> bool;
-
-        pub fn venticapro_read_document(
-            file: *const u8,
-            file_length: usize,
-            book: *mut u64,
-            book_length: usize,
-            states: *mut u8,
-            states_length: usize,
-            places: *mut u32,
-            places_length: usize,
-            events: *const u16,
-            events_length: usize,
             answer: *mut u64,
             answer_length: usize,
         ) -> bool;
@@ -201,97 +127,5 @@ pub fn fresh(file: &[u8], answer: &mut [u64]) -> bool {
     // SAFETY: see the head of this file.
     unsafe {
         exported::venticapro_fresh(file.as_ptr(), file.len(), answer.as_mut_ptr(), answer.len())
-    }
-}
-
-/// Feeding. Values: how many events it took, and the reading after them.
-pub fn feed(
-    file: &[u8],
-    book: &[u64],
-    ceiling: u32,
-    reading: Reading,
-    store: &mut Store,
-    events: &[u16],
-    answer: &mut [u64],
-) -> bool {
-    // SAFETY: see the head of this file.
-    unsafe {
-        exported::venticapro_feed(
-            file.as_ptr(),
-            file.len(),
-            book.as_ptr(),
-            book.len(),
-            ceiling,
-            reading.state,
-            reading.depth,
-            reading.skip,
-            reading.taken,
-            reading.looks,
-            store.states.as_mut_ptr(),
-            store.states.len(),
-            store.places.as_mut_ptr(),
-            store.places.len(),
-            events.as_ptr(),
-            events.len(),
-            answer.as_mut_ptr(),
-            answer.len(),
-        )
-    }
-}
-
-/// The end of a reading. Values: the class of the verdict, the end state.
-pub fn finish(
-    file: &[u8],
-    book: &[u64],
-    reading: Reading,
-    store: &Store,
-    answer: &mut [u64],
-) -> bool {
-    // SAFETY: see the head of this file.
-    unsafe {
-        exported::venticapro_finish(
-            file.as_ptr(),
-            file.len(),
-            book.as_ptr(),
-            book.len(),
-            reading.state,
-            reading.depth,
-            reading.skip,
-            reading.taken,
-            reading.looks,
-            store.states.as_ptr(),
-            store.states.len(),
-            store.places.as_ptr(),
-            store.places.len(),
-            answer.as_mut_ptr(),
-            answer.len(),
-        )
-    }
-}
-
-/// A whole document. Values: the class of the verdict, the end state.
-pub fn read_document(
-    file: &[u8],
-    book: &mut [u64],
-    store: &mut Store,
-    events: &[u16],
-    answer: &mut [u64],
-) -> bool {
-    // SAFETY: see the head of this file.
-    unsafe {
-        exported::venticapro_read_document(
-            file.as_ptr(),
-            file.len(),
-            book.as_mut_ptr(),
-            book.len(),
-            store.states.as_mut_ptr(),
-            store.states.len(),
-            store.places.as_mut_ptr(),
-            store.places.len(),
-            events.as_ptr(),
-            events.len(),
-            answer.as_mut_ptr(),
-            answer.len(),
-        )
     }
 }

@@ -1,11 +1,11 @@
 //! The check program's behaviour.
 
 use crate::book::make_book;
+use crate::calls::{report_by, Feed};
 use crate::hedge;
 use crate::numbers::{self, Refusal};
 use crate::reading::Report;
 use crate::rule::{record, Required, Rule};
-use crate::stream::{self, Feed};
 
 /// The levels for each reading.
 pub const LEVELS: usize = 1024;
@@ -32,24 +32,19 @@ pub fn take_apart(input: &[u8]) -> Result<Input<'_>, Refusal> {
 
 /// What the check program prints for this standard input.
 pub fn check_program(input: &[u8]) -> String {
-    check_program_by(stream::feed, input)
-}
-
-/// The same by way of the hedge.
-pub fn check_program_by_hedge(input: &[u8]) -> String {
     check_program_by(hedge::feed, input)
 }
 
-fn check_program_by(feed: Feed, input: &[u8]) -> String {
+/// The same by a way of feeding.
+pub fn check_program_by(feed: Feed, input: &[u8]) -> String {
     let parts = match take_apart(input) {
         Ok(parts) => parts,
         Err(refusal) => return format!("rule {refusal}\n"),
     };
     let zeros = vec![0; parts.rule.n + 1];
     let mut book = zeros.clone();
-    let report = |book: &[u64]| {
-        stream::report_by(feed, parts.rule_file, book, LEVELS, &parts.events, u32::MAX)
-    };
+    let report =
+        |book: &[u64]| report_by(feed, parts.rule_file, book, LEVELS, &parts.events, u32::MAX);
     let skip = match make_book(parts.rule_file, &mut book) {
         Ok(_) => report(&book),
         Err(refusal) => Report::Refused(refusal),

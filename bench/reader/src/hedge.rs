@@ -4,8 +4,8 @@
 //! reading included, up to the first event that no reading could take (16, 10
 //! or 7). Then the structure is evaluated level by level, with a stack of its
 //! own in place of recursion. On a settled level everything still inside it is
-//! jumped over in one go, without a glance at the single events. The answer must
-//! be that of [`crate::stream::feed`], for any book and any reading.
+//! jumped over in one go, without a glance at the single events. Any book, any
+//! reading, any level store and any ceiling are taken.
 
 use crate::numbers::{self, Refusal};
 use crate::reading::{
@@ -124,7 +124,9 @@ struct Frame {
     state: u8,
 }
 
-/// Feeding, as [`crate::stream::feed`] answers it.
+/// Feeding. A refused event changes nothing, and the earlier ones stay taken;
+/// before the first event nothing is written. A book of zeros gives full
+/// reading.
 pub fn feed(
     rule_file: &[u8],
     book: &[u64],

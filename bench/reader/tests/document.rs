@@ -3,9 +3,10 @@
 mod common;
 
 use common::{input, rule_b, rule_c, RULE_A};
-use reader::check::check_program_by_hedge;
+use reader::calls::report_by;
+use reader::check::check_program_by;
 use reader::positions::FullRun;
-use reader::stream::report_by;
+use reader::stream::feed;
 use reader::*;
 
 const LARGEST: u32 = u32::MAX;
@@ -45,7 +46,7 @@ fn case(rule_file: &[u8], events: &[u16], skipping: &str, reading_fully: &str) {
     let lines = format!("skip {skipping}\nfull {reading_fully}\n");
     let input = input(rule_file, events);
     assert_eq!(check_program(&input), lines);
-    assert_eq!(check_program_by_hedge(&input), lines);
+    assert_eq!(check_program_by(feed, &input), lines);
 }
 
 #[test]

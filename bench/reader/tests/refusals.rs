@@ -3,6 +3,7 @@
 mod common;
 
 use common::{input, RULE_A};
+use reader::stream::feed;
 use reader::*;
 
 fn refusal<T>(number: u8, place: u64) -> Result<T, Refusal> {
@@ -133,7 +134,7 @@ fn the_writer() {
 
 /// Feeds and finishes with rule A and this reading; both must give the refusal.
 fn both_refuse(book: &[u64], reading: Reading, store: &[Level], expected: Refusal) {
-    for feed in [feed as stream::Feed, hedge::feed] {
+    for feed in [feed as calls::Feed, hedge::feed] {
         let mut lent = store.to_vec();
         let fed = feed(&RULE_A, book, reading, &mut lent, &[0, 2, 1], u32::MAX);
         assert_eq!(fed, Fed { took: 0, reading, outcome: Outcome::Refused(expected) });

@@ -1,6 +1,6 @@
 -- What a call lays is what its definition lists: the numbers of two answers that say the same are the same, so what is said of
 -- the one's is said of the other's.
-use mathlib.Core.Path.{_≡_, sym, ap}
+use mathlib.Core.Path.{_≡_, sym, ap, _∙_}
 use mathlib.Core.Bool.{Bool}
 use mathlib.Core.List.{List}
 use Prim.Native.Nat.{ℕ}
@@ -33,3 +33,8 @@ pub laid-read : {w : Whole} {r : End} {book : List ℕ} {store : List Level} {he
     → Laid (listed judgedValues (endSays r)) held fitted held′ → DocumentLaid w held fitted book store held′
 laid-read read laid =
     record { laid = laid-says judgedValues (read .answerIs) laid; bookIs = read .bookIs; storeIs = read .storeIs }
+
+-- two outcomes that a contract allows agree
+pub laid-one : {numbers held : List ℕ} {f₁ f₂ : Bool} {h₁ h₂ : List ℕ} → Laid numbers held f₁ h₁ → Laid numbers held f₂ h₂
+    → (f₁ ≡ f₂) × (h₁ ≡ h₂)
+laid-one a b = (a .fittedIs ∙ sym (b .fittedIs), a .heldIs ∙ sym (b .heldIs))

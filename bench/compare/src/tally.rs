@@ -1,0 +1,103 @@
+//! What was asked and answered in a run.
+//!
+//! Number 15 is given by no call: Reach begins with one state of at most 64, so the
+//! 64th round adds none. A whole document and the check program read with the
+//! largest ceiling from a fresh reading and a book of their own, so 9 and 13 are not
+//! theirs; 16 would take 8 GB of events, and the check program has room for half as
+//! many in a record.
+
+use std::collections::BTreeMap;
+
+/// The numbers that a call can be brought to give.
+pub type Can = &'static [u64];
+
+pub const RULE: Can = &[1, 2, 3, 4, 5];
+pub const WRITER: Can = &[3, 4, 14];
+pub const MAKER: Can = &[1, 2, 3, 4, 5, 6];
+pub const FEED: Can = &[1, 2, 3, 4, 5, 6, 7, 8, 9, 10, 11, 13, 16];
+pub const FINISH: Can = &[1, 2, 3, 4, 5, 6, 12, 13];
+pub const WHOLE: Can = &[1, 2, 3, 4, 5, 6, 7, 8, 10, 11, 12];
+pub const LINE: Can = &[7, 8, 10, 11, 12];
+
+/// From so many inputs on, every number that can be given must have been.
+const ENOUGH: u64 = 10_000;
+
+const LAST_NUMBER: u64 = 16;
+
+struct Row {
+    name: &'static str,
+    can: Can,
+    /// How often each number was given, 0 for none.
+    given: BTreeMap<u64, u64>,
+    /// Answers that did not fit into the slice lent for them.
+    unfit: u64,
+}
+
+#[derive(Default)]
+pub struct Tally {
+    rows: Vec<Row>,
+}
+
+impl Tally {
+    /// An answer on which both sides agree: its number, 0 for none, or nothing if
+    /// it did not fit.
+    pub fn add(&mut self, name: &'static str, can: Can, number: Option<u64>) {
+        let known = self.rows.iter().position(|row| row.name == name);
+        let at = known.unwrap_or_else(|| {
+            self.rows.push(Row { name, can, given: BTreeMap::new(), unfit: 0 });
+            self.rows.len() - 1
+        });
+        match number {
+            Some(number) => *self.rows[at].given.entry(number).or_default() += 1,
+            None => self.rows[at].unfit += 1,
+        }
+    }
+
+    pub fn agreements(&self) -> u64 {
+        self.rows.iter().map(Row::answers).sum()
+    }
+
+    /// The answers by call and number; `-` where a call never gives the number.
+    pub fn print(&self) {
+        print!("{:20}{:>9}{:>9}{:>9}", "answers", "all", "no room", "given");
+        (1..=LAST_NUMBER).for_each(|number| print!("{number:>7}"));
+        println!();
+        for row in &self.rows {
+            print!("{:20}{:>9}{:>9}{:>9}", row.name, row.answers(), row.unfit, row.times(0));
+            for number in 1..=LAST_NUMBER {
+                match (row.times(number), row.can.contains(&number)) {
+                    (0, false) => print!("{:>7}", "-"),
+                    (times, _) => print!("{times:>7}"),
+                }
+            }
+            println!();
+        }
+    }
+
+    /// The numbers that a run of so many inputs should have brought out and did not,
+    /// or did and should not.
+    pub fn check(&self, count: u64) -> Result<(), String> {
+        for row in &self.rows {
+            for number in 1..=LAST_NUMBER {
+                let (times, can) = (row.times(number), row.can.contains(&number));
+                if times == 0 && can && count >= ENOUGH {
+                    return Err(format!("{}: the inputs never brought out {number}", row.name));
+                }
+                if times > 0 && !can {
+                    return Err(format!("{}: {number} was given", row.name));
+                }
+            }
+        }
+        Ok(())
+    }
+}
+
+impl Row {
+    fn times(&self, number: u64) -> u64 {
+        self.given.get(&number).copied().unwrap_or(0)
+    }
+
+    fn answers(&self) -> u64 {
+        self.given.values().sum::<u64>() + self.unfit
+    }
+}
