@@ -31,6 +31,8 @@ impl Store {
 }
 
 mod exported {
+    use super::Record;
+
     unsafe extern "C" {
         pub fn venticapro_feed(
             file: *const u8,
