@@ -8,7 +8,7 @@ use native.Mathlib.Omega.{arith}
 use lib.ListN.{getD}
 use Rattle.meaning.specs.Answers.{Answer, given, refused, refuse_at_when_otherwise_, _andThen_, _giving_, if_then_else_}
 use Rattle.meaning.specs.RuleFile as format
-use Rattle.meaning.specs.RuleFile.{Move, noMove, to, numbersCheck, tableCheck, recordCheck, checkRule, writeCheck, ruleOf}
+use Rattle.meaning.specs.RuleFile.{Move, noMove, to, numbersCheck, tableCheck, recordCheck, checkRule, writeCheck}
 use Rattle.meaning.specs.FullReading.{Event, opens, closes, letter, eventOf, Turn, Table, letterTable, startTable, treeTable, noMoveNumber, look, fullTurn, knownEvent, Went, goOn, feedBy}
 use Rattle.meaning.specs.SkipBook.{makeBook}
 use Rattle.meaning.specs.Skipping.{settledTurn, endsLevel, skipTurn, skipEvent}

@@ -35,9 +35,9 @@ use Rattle.rule.specs.declared.Checked.{Checked}
 use Rattle.rule.specs.declared.Checked.the-variants as answered
 use Rattle.reading.specs.Checks.{readingAnswer}
 use Rattle.reading.specs.Feeding.{FedIs, fedOf}
-use Rattle.reading.specs.Advancing.{rest, startOf, Goes, Gone}
+use Rattle.turning.specs.Advancing.{rest, startOf, Goes, Gone}
 use Rattle.reading.specs.Whole.{MadeRule}
-use Rattle.reading.specs.declared.Going.{Going}
+use Rattle.turning.specs.declared.Going.{Going}
 use Rattle.reading.proofs.FedArray as Fa
 use Rattle.reading.proofs.FedArray.Laws as Fa′
 use Rattle.levels.proofs.Values.{Valued, FitsIn, passed, of-struct, of-enum}

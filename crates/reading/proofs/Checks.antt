@@ -22,12 +22,13 @@ use Rattle.rule.specs.declared.Rule.{Rule}
 use Rattle.rule.specs.declared.Checked.{Checked}
 use Rattle.rule.specs.declared.Checked.the-variants as checked
 use Rattle.rule.proofs.Said.{fine-accepted, giving-refused}
-use Rattle.reading.specs.Feeding.{Feeds, FedIs, fedOf}
-use Rattle.reading.specs.Advancing.{rest, restOf, startOf, Goes, Gone}
-use Rattle.reading.specs.declared.Going.{Going}
+use Rattle.turning.specs.Turns.{Feeds}
+use Rattle.reading.specs.Feeding.{FedIs, fedOf}
+use Rattle.turning.specs.Advancing.{rest, restOf, startOf, Goes, Gone}
+use Rattle.turning.specs.declared.Going.{Going}
 use Rattle.reading.specs.Checks.{ruleIn, readingAnswer}
-use Rattle.reading.proofs.Steps.{turn-ready}
-use Rattle.reading.proofs.Turned.{states-are}
+use Rattle.turning.proofs.Steps.{turn-ready}
+use Rattle.turning.proofs.Turned.{states-are}
 
 -- ---- the rule
 

@@ -1,9 +1,4 @@
-pub mod Turned
-pub mod Steps
-pub mod OneTurn
 pub mod Checks
-pub mod Counting
-pub mod PassesOn
 pub mod WholeRead
 pub mod OneOutcome
 pub mod Passed

@@ -34,14 +34,13 @@ use Rattle.rule.specs.declared.Checked.{Checked}
 use Rattle.rule.proofs.Checked as Ch
 use Rattle.rule.proofs.Checked.Laws as Ch′
 use Rattle.reading.specs.Checks.{abovesIn, ruleIn, Seen, readingAnswer}
-use Rattle.reading.specs.Turns.{Ready}
-use Rattle.reading.specs.Feeding.{Feeds}
-use Rattle.reading.specs.Advancing.{Advances}
-use Rattle.reading.specs.declared.Advance.{Advance}
-use Rattle.reading.proofs.Going as Go
-use Rattle.reading.proofs.Going.Laws as Go′
-use Rattle.reading.proofs.Advance as Ad
-use Rattle.reading.proofs.Advance.Laws as Ad′
+use Rattle.turning.specs.Turns.{Ready, Feeds}
+use Rattle.turning.specs.Advancing.{Advances}
+use Rattle.turning.specs.declared.Advance.{Advance}
+use Rattle.turning.proofs.Going as Go
+use Rattle.turning.proofs.Going.Laws as Go′
+use Rattle.turning.proofs.Advance as Ad
+use Rattle.turning.proofs.Advance.Laws as Ad′
 use Rattle.levels.proofs.Values.{Valued, FitsIn, passed, of-struct, of-enum}
 use Rattle.levels.proofs.Element.{record-type, level-value}
 use Rattle.levels.proofs.InPlace.{Gives}
@@ -59,10 +58,10 @@ use Rattle.reading.proofs.checking.depth_within as depth-within
 use Rattle.reading.proofs.checking.depth_within.Symbol.{name as #depth-within}
 use Rattle.reading.proofs.checking.reading_answer as reading-answer
 use Rattle.reading.proofs.checking.reading_answer.Symbol.{name as #reading-answer}
-use Rattle.reading.proofs.advancing.top_place as top-place
-use Rattle.reading.proofs.advancing.top_place.Symbol.{name as #top-place}
-use Rattle.reading.proofs.advancing.advance as advance
-use Rattle.reading.proofs.advancing.advance.Symbol.{name as #advance}
+use Rattle.turning.proofs.advancing.top_place as top-place
+use Rattle.turning.proofs.advancing.top_place.Symbol.{name as #top-place}
+use Rattle.turning.proofs.advancing.advance as advance
+use Rattle.turning.proofs.advancing.advance.Symbol.{name as #advance}
 
 abbrev pub reading-value : Valued
 reading-value = of-struct Rd.the-type Rd′.the-laws Rd′.the-plain

@@ -24,14 +24,14 @@ use Rattle.rule.specs.declared.Checked.{Checked}
 use Rattle.rule.specs.declared.Checked.the-variants as checked
 use Rattle.rule.specs.Says.{checkedSays, checkAnswer, RuleOf}
 use Rattle.rule.proofs.Said.{refused-check}
-use Rattle.reading.specs.Feeding.{Feeds, over}
+use Rattle.turning.specs.Turns.{Feeds, over}
 use Rattle.reading.specs.Whole.{endFed, ReadIs, MadeRule}
 use Rattle.reading.specs.Checks.{ruleIn}
-use Rattle.reading.specs.Advancing.{rest, restOf, startOf, Goes, Gone}
-use Rattle.reading.specs.declared.Going.{Going}
-use Rattle.reading.proofs.Steps.{turn-ready}
+use Rattle.turning.specs.Advancing.{rest, restOf, startOf, Goes, Gone}
+use Rattle.turning.specs.declared.Going.{Going}
+use Rattle.turning.proofs.Steps.{turn-ready}
 use Rattle.reading.proofs.Checks.{ruled-by}
-use Rattle.reading.proofs.Turned.{states-are}
+use Rattle.turning.proofs.Turned.{states-are}
 
 -- what feeding a fresh reading with the largest ceiling comes to
 abbrev pub readAll : List ℕ → List ℕ → List Level → List ℕ → Went Stored

@@ -1,7 +1,4 @@
 // What feed and finish check first: the rule, the length of the book, and that the reading is one.
-use crate::advancing::top_place;
-use crate::settling::is_held;
-use crate::settling::is_settled;
 use levels::level_at;
 use levels::room;
 use meaning::Level;
@@ -9,6 +6,9 @@ use meaning::Reading;
 use meaning::Refusal;
 use rule::Checked;
 use rule::Rule;
+use turning::advancing::top_place;
+use turning::settling::is_held;
+use turning::settling::is_settled;
 ghost use mathlib.Core.Path.{_≡_};
 ghost use mathlib.Core.Bool.{not, _&&_};
 ghost use mathlib.Core.List.{List};
@@ -20,7 +20,7 @@ ghost use Rattle.meaning.specs.RuleFile.{isState};
 ghost use Rattle.meaning.specs.Skipping.{settled};
 ghost use Rattle.meaning.specs.Calls.{notReading};
 ghost use Rattle.rule.specs.Says.{checkedSays, checkAnswer};
-ghost use Rattle.reading.specs.Turns.{BookServes};
+ghost use Rattle.turning.specs.Turns.{BookServes};
 ghost use Rattle.reading.specs.Checks.{abovesIn, ruleIn, Seen, readingAnswer};
 
 // The rule that a check gave, or four zeros.

@@ -1,5 +1,4 @@
 // The end of a reading, by value: the class of the state is the verdict.
-use crate::Going;
 use meaning::End;
 use meaning::Feeding;
 use meaning::Judgement;
@@ -10,6 +9,7 @@ use meaning::Verdict;
 use rule::Checked;
 use rule::Rule;
 use rule::tables;
+use turning::Going;
 ghost use mathlib.Core.Path.{_≡_};
 ghost use Prim.Native.Nat.{_<_};
 ghost use Rattle.meaning.specs.RuleFile.{ruleOf};

@@ -1,7 +1,4 @@
 // Feeding over the level store: where it begins, all events turn by turn, and what it answers.
-use crate::Going;
-use crate::advancing::advance;
-use crate::advancing::top_place;
 use levels::level_at;
 use levels::put_level;
 use levels::room;
@@ -11,11 +8,14 @@ use meaning::Level;
 use meaning::Reading;
 use rule::Checked;
 use rule::Rule;
+use turning::Going;
+use turning::advancing::advance;
+use turning::advancing::top_place;
 ghost use mathlib.Core.Path.{_≡_};
 ghost use Prim.Native.Nat.{_-_, _≤_};
 ghost use lib.ListN.{length};
 ghost use Rattle.meaning.specs.RuleFile.{ruleOf};
-ghost use Rattle.reading.specs.Advancing.{rest, startOf, Goes, Gone};
+ghost use Rattle.turning.specs.Advancing.{rest, startOf, Goes, Gone};
 ghost use Rattle.reading.specs.Feeding.{fedOf};
 
 // Where feeding begins: before the first event, or at the check's refusal with none left.

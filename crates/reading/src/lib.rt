@@ -1,14 +1,9 @@
 // The reading of events: what one event leads to, by value, and the calls over the lent level store.
-mod advancing;
 mod checking;
 mod document;
 mod ending;
 mod feeding;
-mod passing;
-mod settling;
-mod turns;
 
-use advancing::top_place;
 use checking::admit;
 use checking::rule_in;
 use document::LARGEST_CEILING;
@@ -28,42 +23,12 @@ use meaning::Reading;
 use meaning::Refusal;
 use rule::Checked;
 use rule::Rule;
+use turning::advancing::top_place;
 ghost use mathlib.Core.Path.{_≡_};
 ghost use Rattle.meaning.specs.Calls.{endSays, feedCall, finishCall, freshCall, wholeDocument};
 ghost use Rattle.reading.specs.Feeding.{FedIs};
 ghost use Rattle.reading.specs.Checks.{begunSays};
 ghost use Rattle.reading.specs.Whole.{ReadIs};
-
-// What one event leads to: the open levels stay, a record is stored for one more level, the innermost level ends, or
-// the event is refused with a number. The place of a refused event is the count of events taken before it, which the
-// reading has.
-enum Turn {
-    Stays(Reading),
-    Stores(Level, Reading),
-    Ends(Reading),
-    Refused(u8),
-}
-
-// Where passing over a run of events was left: the reading there, and the index of the next event.
-struct PassedOver {
-    pub reading: Reading,
-    pub next: usize,
-}
-
-// Where feeding stands: the reading there, the index of the next event, and whether one was refused, as then none is left.
-struct Going {
-    pub reading: Reading,
-    pub next: usize,
-    pub ended: Feeding,
-}
-
-// What one turn leads to: where feeding stands then, and the record to store with its place. Nothing is stored past the
-// level store's length.
-struct Advance {
-    pub going: Going,
-    pub place: usize,
-    pub level: Level,
-}
 
 // What a fresh reading answers: the reading, or the refusal of the rule.
 pub enum Begun {

@@ -44,8 +44,8 @@ use Rattle.meaning.specs.declared.Fed.{Fed}
 use Rattle.rule.specs.declared.Checked.{Checked}
 use Rattle.reading.specs.Checks.{ruleIn}
 use Rattle.reading.specs.Feeding.{FedIs, fedOf}
-use Rattle.reading.specs.Advancing.{rest, startOf}
-use Rattle.reading.specs.declared.Going.{Going}
+use Rattle.turning.specs.Advancing.{rest, startOf}
+use Rattle.turning.specs.declared.Going.{Going}
 use Rattle.reading.proofs.Checks.{start-goes, start-gone, fed-answer}
 use Rattle.reading.proofs.Passed.{reading-value, rule-value, checked-value, going-value, rule-in-by}
 use Rattle.reading.proofs.Called.{fed-value, admit-by, started-by, feed-loop-by, fed-of-by}

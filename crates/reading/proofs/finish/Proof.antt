@@ -53,10 +53,10 @@ use Rattle.reading.proofs.checking.admit as admit
 use Rattle.reading.proofs.checking.admit.Symbol as admit-def
 use Rattle.reading.proofs.checking.admit.Symbol.{name as #admit}
 use Rattle.reading.proofs.checking.admit.Met as admit-thm
-use Rattle.reading.proofs.advancing.top_place as top-place
-use Rattle.reading.proofs.advancing.top_place.Symbol as top-place-def
-use Rattle.reading.proofs.advancing.top_place.Symbol.{name as #top-place}
-use Rattle.reading.proofs.advancing.top_place.Met as top-place-thm
+use Rattle.turning.proofs.advancing.top_place as top-place
+use Rattle.turning.proofs.advancing.top_place.Symbol as top-place-def
+use Rattle.turning.proofs.advancing.top_place.Symbol.{name as #top-place}
+use Rattle.turning.proofs.advancing.top_place.Met as top-place-thm
 use Rattle.levels.proofs.level_at as level-at
 use Rattle.levels.proofs.level_at.Symbol as level-at-def
 use Rattle.levels.proofs.level_at.Symbol.{name as #level-at}
@@ -142,7 +142,7 @@ finish-spec 𝓤 H 𝓜 𝓖 𝓡 =
     (all-go 𝓤 H (𝓖 .A) W ps) (spells ps) (tellss ps)
     (λ κs qs bounds a g are. via 𝓤 _ (fst∗ 𝓤 _ (emp 𝓤)) (walk 𝓤 H (𝓖 .A) W (𝓜 .mem) (𝓡 .run) (tablesOf 𝓤 H 𝓜 (tables 𝓤 H 𝓜 𝓡 code.env)) κs qs a
     (cited 𝓤 H (tripleOf 𝓤 H (𝓖 .A) admit.signature (admit.spec 𝓤 H (𝓖 .A) (𝓜 .mem) (𝓡 .run))) 𝓜 𝓡 code.env #admit admit-def.routine code.calls-reading·checking·admit (admit-thm.met 𝓤 H 𝓜 𝓖 𝓡))
-    (cited 𝓤 H (tripleOf 𝓤 H (𝓖 .A) top-place.signature (top-place.spec 𝓤 H (𝓖 .A) (𝓜 .mem) (𝓡 .run))) 𝓜 𝓡 code.env #top-place top-place-def.routine code.calls-reading·advancing·top-place (top-place-thm.met 𝓤 H 𝓜 𝓖 𝓡))
+    (cited 𝓤 H (tripleOf 𝓤 H (𝓖 .A) top-place.signature (top-place.spec 𝓤 H (𝓖 .A) (𝓜 .mem) (𝓡 .run))) 𝓜 𝓡 code.env #top-place top-place-def.routine code.calls-turning·advancing·top-place (top-place-thm.met 𝓤 H 𝓜 𝓖 𝓡))
     (cited 𝓤 H (tripleOf 𝓤 H (𝓖 .A) level-at.signature (level-at.spec 𝓤 H (𝓖 .A) (𝓜 .mem) (𝓡 .run))) 𝓜 𝓡 code.env #level-at level-at-def.routine code.calls-levels·level-at (level-at-thm.met 𝓤 H 𝓜 𝓖 𝓡))
     (cited 𝓤 H (tripleOf 𝓤 H (𝓖 .A) end-checked.signature (end-checked.spec 𝓤 H (𝓖 .A) (𝓜 .mem) (𝓡 .run))) 𝓜 𝓡 code.env #end-checked end-checked-def.routine code.calls-reading·ending·end-checked (end-checked-thm.met 𝓤 H 𝓜 𝓖 𝓡))
     (are .0) (are .1 .0) (are .1 .1 .0) (are .1 .1 .1 .0)))

@@ -50,11 +50,11 @@ use Rattle.meaning.specs.declared.End.{End}
 use Rattle.meaning.proofs.Whole.{madeBook}
 use Rattle.rule.specs.declared.Checked.{Checked}
 use Rattle.reading.specs.Checks.{ruleIn}
-use Rattle.reading.specs.Advancing.{rest, startOf}
+use Rattle.turning.specs.Advancing.{rest, startOf}
 use Rattle.reading.specs.Whole.{ReadIs}
-use Rattle.reading.specs.declared.Going.{Going}
-use Rattle.reading.proofs.Going as Go
-use Rattle.reading.proofs.Going.Laws as Go′
+use Rattle.turning.specs.declared.Going.{Going}
+use Rattle.turning.proofs.Going as Go
+use Rattle.turning.proofs.Going.Laws as Go′
 use Rattle.reading.proofs.WholeRead.{begun-by, book-stays, document-goes, document-needs, document-comes}
 use Rattle.reading.proofs.Passed.{reading-value, rule-value, checked-value, going-value, rule-in-by, top-by}
 use Rattle.reading.proofs.Called.{end-value, started-by, feed-loop-by, make-rule-by, fresh-reading-by, end-fed-by}
@@ -78,10 +78,10 @@ use Rattle.reading.proofs.feeding.feed_loop as feed-loop
 use Rattle.reading.proofs.feeding.feed_loop.Symbol as feed-loop-def
 use Rattle.reading.proofs.feeding.feed_loop.Symbol.{name as #feed-loop}
 use Rattle.reading.proofs.feeding.feed_loop.Met as feed-loop-thm
-use Rattle.reading.proofs.advancing.top_place as top-place
-use Rattle.reading.proofs.advancing.top_place.Symbol as top-place-def
-use Rattle.reading.proofs.advancing.top_place.Symbol.{name as #top-place}
-use Rattle.reading.proofs.advancing.top_place.Met as top-place-thm
+use Rattle.turning.proofs.advancing.top_place as top-place
+use Rattle.turning.proofs.advancing.top_place.Symbol as top-place-def
+use Rattle.turning.proofs.advancing.top_place.Symbol.{name as #top-place}
+use Rattle.turning.proofs.advancing.top_place.Met as top-place-thm
 use Rattle.levels.proofs.level_at as level-at
 use Rattle.levels.proofs.level_at.Symbol as level-at-def
 use Rattle.levels.proofs.level_at.Symbol.{name as #level-at}
@@ -188,7 +188,7 @@ read-document-spec 𝓤 H 𝓜 𝓖 𝓡 =
     (cited 𝓤 H (tripleOf 𝓤 H (𝓖 .A) fresh-reading.signature (fresh-reading.spec 𝓤 H (𝓖 .A) (𝓜 .mem) (𝓡 .run))) 𝓜 𝓡 code.env #fresh-reading fresh-reading-def.routine code.calls-reading·document·fresh-reading (fresh-reading-thm.met 𝓤 H 𝓜 𝓖 𝓡))
     (cited 𝓤 H (tripleOf 𝓤 H (𝓖 .A) started.signature (started.spec 𝓤 H (𝓖 .A) (𝓜 .mem) (𝓡 .run))) 𝓜 𝓡 code.env #started started-def.routine code.calls-reading·feeding·started (started-thm.met 𝓤 H 𝓜 𝓖 𝓡))
     (cited 𝓤 H (tripleOf 𝓤 H (𝓖 .A) feed-loop.signature (feed-loop.spec 𝓤 H (𝓖 .A) (𝓜 .mem) (𝓡 .run))) 𝓜 𝓡 code.env #feed-loop feed-loop-def.routine code.calls-reading·feeding·feed-loop (feed-loop-thm.met 𝓤 H 𝓜 𝓖 𝓡))
-    (cited 𝓤 H (tripleOf 𝓤 H (𝓖 .A) top-place.signature (top-place.spec 𝓤 H (𝓖 .A) (𝓜 .mem) (𝓡 .run))) 𝓜 𝓡 code.env #top-place top-place-def.routine code.calls-reading·advancing·top-place (top-place-thm.met 𝓤 H 𝓜 𝓖 𝓡))
+    (cited 𝓤 H (tripleOf 𝓤 H (𝓖 .A) top-place.signature (top-place.spec 𝓤 H (𝓖 .A) (𝓜 .mem) (𝓡 .run))) 𝓜 𝓡 code.env #top-place top-place-def.routine code.calls-turning·advancing·top-place (top-place-thm.met 𝓤 H 𝓜 𝓖 𝓡))
     (cited 𝓤 H (tripleOf 𝓤 H (𝓖 .A) level-at.signature (level-at.spec 𝓤 H (𝓖 .A) (𝓜 .mem) (𝓡 .run))) 𝓜 𝓡 code.env #level-at level-at-def.routine code.calls-levels·level-at (level-at-thm.met 𝓤 H 𝓜 𝓖 𝓡))
     (cited 𝓤 H (tripleOf 𝓤 H (𝓖 .A) end-fed.signature (end-fed.spec 𝓤 H (𝓖 .A) (𝓜 .mem) (𝓡 .run))) 𝓜 𝓡 code.env #end-fed end-fed-def.routine code.calls-reading·ending·end-fed (end-fed-thm.met 𝓤 H 𝓜 𝓖 𝓡))
     (are .0) (are .1 .0) (are .1 .1 .0) (are .1 .1 .1 .0)))

@@ -68,10 +68,10 @@ use Rattle.reading.proofs.checking.stored_in as stored-in
 use Rattle.reading.proofs.checking.stored_in.Symbol as stored-in-def
 use Rattle.reading.proofs.checking.stored_in.Symbol.{name as #stored-in}
 use Rattle.reading.proofs.checking.stored_in.Met as stored-in-thm
-use Rattle.reading.proofs.advancing.top_place as top-place
-use Rattle.reading.proofs.advancing.top_place.Symbol as top-place-def
-use Rattle.reading.proofs.advancing.top_place.Symbol.{name as #top-place}
-use Rattle.reading.proofs.advancing.top_place.Met as top-place-thm
+use Rattle.turning.proofs.advancing.top_place as top-place
+use Rattle.turning.proofs.advancing.top_place.Symbol as top-place-def
+use Rattle.turning.proofs.advancing.top_place.Symbol.{name as #top-place}
+use Rattle.turning.proofs.advancing.top_place.Met as top-place-thm
 use Rattle.levels.proofs.level_at as level-at
 use Rattle.levels.proofs.level_at.Symbol as level-at-def
 use Rattle.levels.proofs.level_at.Symbol.{name as #level-at}
@@ -167,7 +167,7 @@ admit-spec 𝓤 H 𝓜 𝓖 𝓡 =
     (cited 𝓤 H (tripleOf 𝓤 H (𝓖 .A) room.signature (room.spec 𝓤 H (𝓖 .A) (𝓜 .mem) (𝓡 .run))) 𝓜 𝓡 code.env #room room-def.routine code.calls-levels·room (room-thm.met 𝓤 H 𝓜 𝓖 𝓡))
     (cited 𝓤 H (tripleOf 𝓤 H (𝓖 .A) depth-within.signature (depth-within.spec 𝓤 H (𝓖 .A) (𝓜 .mem) (𝓡 .run))) 𝓜 𝓡 code.env #depth-within depth-within-def.routine code.calls-reading·checking·depth-within (depth-within-thm.met 𝓤 H 𝓜 𝓖 𝓡))
     (cited 𝓤 H (tripleOf 𝓤 H (𝓖 .A) stored-in.signature (stored-in.spec 𝓤 H (𝓖 .A) (𝓜 .mem) (𝓡 .run))) 𝓜 𝓡 code.env #stored-in stored-in-def.routine code.calls-reading·checking·stored-in (stored-in-thm.met 𝓤 H 𝓜 𝓖 𝓡))
-    (cited 𝓤 H (tripleOf 𝓤 H (𝓖 .A) top-place.signature (top-place.spec 𝓤 H (𝓖 .A) (𝓜 .mem) (𝓡 .run))) 𝓜 𝓡 code.env #top-place top-place-def.routine code.calls-reading·advancing·top-place (top-place-thm.met 𝓤 H 𝓜 𝓖 𝓡))
+    (cited 𝓤 H (tripleOf 𝓤 H (𝓖 .A) top-place.signature (top-place.spec 𝓤 H (𝓖 .A) (𝓜 .mem) (𝓡 .run))) 𝓜 𝓡 code.env #top-place top-place-def.routine code.calls-turning·advancing·top-place (top-place-thm.met 𝓤 H 𝓜 𝓖 𝓡))
     (cited 𝓤 H (tripleOf 𝓤 H (𝓖 .A) level-at.signature (level-at.spec 𝓤 H (𝓖 .A) (𝓜 .mem) (𝓡 .run))) 𝓜 𝓡 code.env #level-at level-at-def.routine code.calls-levels·level-at (level-at-thm.met 𝓤 H 𝓜 𝓖 𝓡))
     (cited 𝓤 H (tripleOf 𝓤 H (𝓖 .A) reading-answer.signature (reading-answer.spec 𝓤 H (𝓖 .A) (𝓜 .mem) (𝓡 .run))) 𝓜 𝓡 code.env #reading-answer reading-answer-def.routine code.calls-reading·checking·reading-answer (reading-answer-thm.met 𝓤 H 𝓜 𝓖 𝓡))
     (are .0) (are .1 .0) (are .1 .1 .0) (are .1 .1 .1 .0)))

@@ -11,7 +11,7 @@ use Rattle.rule.specs.Says.{checkedSays, checkAnswer, RuleOf}
 use Rattle.rule.proofs.Said.{refused-check}
 use Rattle.reading.specs.Checks.{ruleIn, Seen}
 use Rattle.reading.proofs.Checks.{ruled-by, answer-rule, answer-short, answer-unread, answer-fine}
-use Rattle.reading.proofs.Turned.{states-are, few-states}
+use Rattle.turning.proofs.Turned.{states-are, few-states}
 use Rattle.reading.proofs.checking.reading_answer.Statement.{statement}
 use Rattle.reading.proofs.checking.reading_answer.Tie as tie
 

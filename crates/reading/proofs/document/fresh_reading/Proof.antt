@@ -1,7 +1,7 @@
 -- `reading::document::fresh_reading` meets its contract: the initial state is the accepted file's.
 -- Assumes nothing.
 use Rattle.meaning.specs.FullReading.{freshReading}
-use Rattle.reading.proofs.Turned.{initial-is}
+use Rattle.turning.proofs.Turned.{initial-is}
 use Rattle.reading.proofs.document.fresh_reading.Statement.{statement}
 use Rattle.reading.proofs.document.fresh_reading.Tie as tie
 

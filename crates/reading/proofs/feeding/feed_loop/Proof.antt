@@ -39,15 +39,15 @@ use Rattle.meaning.specs.FullReading.{blank}
 use Rattle.meaning.specs.Calls.{topOf}
 use Rattle.meaning.specs.RuleFile.{ruleOf}
 use Rattle.rule.specs.declared.Rule.{Rule}
-use Rattle.reading.specs.Turns.{Ready}
-use Rattle.reading.specs.Advancing.{Goes, Gone, rest}
-use Rattle.reading.specs.declared.Advance.{Advance}
-use Rattle.reading.specs.declared.Going.{Going}
-use Rattle.reading.proofs.Going as Go
-use Rattle.reading.proofs.Going.Laws as Go′
-use Rattle.reading.proofs.Advance as Ad
-use Rattle.reading.proofs.Advance.Laws as Ad′
-use Rattle.reading.proofs.OneTurn.{Underway, underway-start, underway-ready, underway-next, underway-ends}
+use Rattle.turning.specs.Turns.{Ready}
+use Rattle.turning.specs.Advancing.{Goes, Gone, rest}
+use Rattle.turning.specs.declared.Advance.{Advance}
+use Rattle.turning.specs.declared.Going.{Going}
+use Rattle.turning.proofs.Going as Go
+use Rattle.turning.proofs.Going.Laws as Go′
+use Rattle.turning.proofs.Advance as Ad
+use Rattle.turning.proofs.Advance.Laws as Ad′
+use Rattle.turning.proofs.OneTurn.{Underway, underway-start, underway-ready, underway-next, underway-ends}
 use Rattle.reading.proofs.Passed.{reading-value, rule-value, going-value, advance-value, Turns-so, top-by, advance-by}
 use Rattle.levels.proofs.Values.{FitsIn, storable}
 use Rattle.levels.proofs.Locals.{Blocks, placed, lying, dying, freed, cleared}
@@ -73,14 +73,14 @@ use Rattle.levels.proofs.room as room
 use Rattle.levels.proofs.room.Symbol as room-def
 use Rattle.levels.proofs.room.Symbol.{name as #room}
 use Rattle.levels.proofs.room.Met as room-thm
-use Rattle.reading.proofs.advancing.top_place as top-place
-use Rattle.reading.proofs.advancing.top_place.Symbol as top-place-def
-use Rattle.reading.proofs.advancing.top_place.Symbol.{name as #top-place}
-use Rattle.reading.proofs.advancing.top_place.Met as top-place-thm
-use Rattle.reading.proofs.advancing.advance as advance
-use Rattle.reading.proofs.advancing.advance.Symbol as advance-def
-use Rattle.reading.proofs.advancing.advance.Symbol.{name as #advance}
-use Rattle.reading.proofs.advancing.advance.Met as advance-thm
+use Rattle.turning.proofs.advancing.top_place as top-place
+use Rattle.turning.proofs.advancing.top_place.Symbol as top-place-def
+use Rattle.turning.proofs.advancing.top_place.Symbol.{name as #top-place}
+use Rattle.turning.proofs.advancing.top_place.Met as top-place-thm
+use Rattle.turning.proofs.advancing.advance as advance
+use Rattle.turning.proofs.advancing.advance.Symbol as advance-def
+use Rattle.turning.proofs.advancing.advance.Symbol.{name as #advance}
+use Rattle.turning.proofs.advancing.advance.Met as advance-thm
 use Rattle.reading.proofs.feeding.feed_loop.Key.{name as #feed-loop}
 use Rattle.reading.proofs.feeding.feed_loop as feed-loop
 use Rattle.reading.proofs.feeding.feed_loop.Statement as stated
@@ -262,6 +262,6 @@ feed-loop-spec {M} 𝓤 H 𝓜 𝓖 𝓡 =
     (cited 𝓤 H (tripleOf 𝓤 H (𝓖 .A) level-at.signature (level-at.spec 𝓤 H (𝓖 .A) (𝓜 .mem) (𝓡 .run))) 𝓜 𝓡 code.env #level-at level-at-def.routine code.calls-levels·level-at (level-at-thm.met 𝓤 H 𝓜 𝓖 𝓡))
     (cited 𝓤 H (tripleOf 𝓤 H (𝓖 .A) put-level.signature (put-level.spec 𝓤 H (𝓖 .A) (𝓜 .mem) (𝓡 .run))) 𝓜 𝓡 code.env #put-level put-level-def.routine code.calls-levels·put-level (put-level-thm.met 𝓤 H 𝓜 𝓖 𝓡))
     (cited 𝓤 H (tripleOf 𝓤 H (𝓖 .A) room.signature (room.spec 𝓤 H (𝓖 .A) (𝓜 .mem) (𝓡 .run))) 𝓜 𝓡 code.env #room room-def.routine code.calls-levels·room (room-thm.met 𝓤 H 𝓜 𝓖 𝓡))
-    (cited 𝓤 H (tripleOf 𝓤 H (𝓖 .A) top-place.signature (top-place.spec 𝓤 H (𝓖 .A) (𝓜 .mem) (𝓡 .run))) 𝓜 𝓡 code.env #top-place top-place-def.routine code.calls-reading·advancing·top-place (top-place-thm.met 𝓤 H 𝓜 𝓖 𝓡))
-    (cited 𝓤 H (tripleOf 𝓤 H (𝓖 .A) advance.signature (advance.spec 𝓤 H (𝓖 .A) (𝓜 .mem) (𝓡 .run))) 𝓜 𝓡 code.env #advance advance-def.routine code.calls-reading·advancing·advance (advance-thm.met 𝓤 H 𝓜 𝓖 𝓡))
+    (cited 𝓤 H (tripleOf 𝓤 H (𝓖 .A) top-place.signature (top-place.spec 𝓤 H (𝓖 .A) (𝓜 .mem) (𝓡 .run))) 𝓜 𝓡 code.env #top-place top-place-def.routine code.calls-turning·advancing·top-place (top-place-thm.met 𝓤 H 𝓜 𝓖 𝓡))
+    (cited 𝓤 H (tripleOf 𝓤 H (𝓖 .A) advance.signature (advance.spec 𝓤 H (𝓖 .A) (𝓜 .mem) (𝓡 .run))) 𝓜 𝓡 code.env #advance advance-def.routine code.calls-turning·advancing·advance (advance-thm.met 𝓤 H 𝓜 𝓖 𝓡))
     (are .0) (are .1 .0) (are .1 .1 .0) (are .1 .1 .1 .0 .1) (are .1 .1 .1 .1 .0) (are .1 .1 .1 .1 .1 .0) (are .1 .1 .1 .1 .1 .1 .0) goes))

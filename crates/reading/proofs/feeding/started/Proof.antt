@@ -1,6 +1,6 @@
 -- `reading::feeding::started` meets its contract: each case of the check's answer.
 -- Assumes nothing.
-use Rattle.reading.specs.Advancing.{startOf}
+use Rattle.turning.specs.Advancing.{startOf}
 use borrow.Author.Needs.{needs}
 use Rattle.reading.proofs.feeding.started.Statement.{statement}
 use Rattle.reading.proofs.feeding.started.Tie as tie

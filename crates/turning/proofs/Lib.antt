@@ -1,0 +1,5 @@
+pub mod Turned
+pub mod Steps
+pub mod OneTurn
+pub mod Counting
+pub mod PassesOn

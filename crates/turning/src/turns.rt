@@ -1,0 +1,218 @@
+// What one event leads to, from the reading and the innermost level's record alone: the level store is not seen here.
+// Each function answers what the definition of its name says.
+use crate::Turn;
+use meaning::Level;
+use meaning::Reading;
+use rule::Rule;
+use rule::tables;
+ghost use mathlib.Core.Path.{_≡_};
+ghost use mathlib.Core.Bool.{true};
+ghost use mathlib.Core.List.{List};
+ghost use Prim.Native.Nat.{ℕ, _+_, _<_};
+ghost use Rattle.meaning.specs.RuleFile.{ruleOf};
+ghost use Rattle.meaning.specs.FullReading.{opens, closes, letter, eventOf, fullTurn};
+ghost use Rattle.meaning.specs.FullReading as full;
+ghost use Rattle.meaning.specs.Skipping as skipping;
+ghost use Rattle.meaning.specs.Skipping.{endsLevel, settledTurn, skipEvent};
+ghost use Rattle.rule.specs.Says.{RuleOf};
+ghost use Rattle.turning.specs.Turns.{turnSays, lookNumber, Counted, OneMore, StatesIn, Stands};
+
+// The most events that a reading takes.
+pub const MOST_EVENTS: u32 = 4294967295;
+
+// The refusal where each table has no move.
+const NO_LETTER_MOVE: u8 = 11;
+
+const NO_TREE_START: u8 = 11;
+
+const NO_TREE_MOVE: u8 = 11;
+
+// The reading after an event that was a look.
+fn looked(reading: Reading, state: u8, depth: u32) -> Reading
+    requires { ⌜ OneMore reading ⌝ }
+    ensures { λ r. ⌜ r ≡ full.looked reading state depth ⌝ }
+{
+    let taken = reading.taken + 1;
+    let looks = reading.looks + 1;
+    Reading {
+        state,
+        depth,
+        skip: reading.skip,
+        taken,
+        looks,
+    }
+}
+
+// The reading after an event that was no look.
+fn passed(reading: Reading, state: u8, depth: u32, skip: u32) -> Reading
+    requires { ⌜ OneMore reading ⌝ }
+    ensures { λ r. ⌜ r ≡ skipping.passed reading state depth skip ⌝ }
+{
+    let taken = reading.taken + 1;
+    Reading {
+        state,
+        depth,
+        skip,
+        taken,
+        looks: reading.looks,
+    }
+}
+
+// The number of the refusal of a look at a byte, or zero where it gives a state: the ceiling first, and then no move.
+fn look_refused(ceiling: u32, reading: Reading, byte: u8, number: u8) -> u8
+    ensures { λ r. ⌜ r ≡ lookNumber ceiling reading byte number ⌝ }
+{
+    if ceiling <= reading.looks {
+        return 9;
+    }
+    if byte == Rule::NONE {
+        return number;
+    }
+    0
+}
+
+// A letter in full reading. The level store's length and the innermost record do not matter.
+fn full_letter(file: &[u8], rule: Rule, ceiling: u32, reading: Reading, a: u16) -> Turn
+    requires { ⌜ RuleOf (now file) rule ⌝ ∗ ⌜ OneMore reading ⌝ ∗ ⌜ reading .state < rule .states ⌝ ∗ ⌜ a < rule .letters ⌝ }
+    ensures { λ r. ⌜ ((room : ℕ) (top : Level) → turnSays reading r ≡ fullTurn (ruleOf (now (file .entry))) room ceiling reading top (letter a)) ⌝ }
+{
+    let state = tables::letter_move(file, rule, reading.state, a);
+    let letter_refused = look_refused(ceiling, reading, state, NO_LETTER_MOVE);
+    if letter_refused != 0 {
+        return Turn::Refused(letter_refused);
+    }
+    Turn::Stays(looked(reading, state, reading.depth))
+}
+
+// An open in full reading.
+fn full_open(rule: Rule, room: usize, ceiling: u32, reading: Reading) -> Turn
+    requires { ⌜ OneMore reading ⌝ }
+    ensures { λ r. ⌜ ((file : List ℕ) (top : Level) → RuleOf file rule → turnSays reading r ≡ fullTurn (ruleOf file) room ceiling reading top opens) ⌝ }
+{
+    let depth = reading.depth as usize;
+    let start_refused = look_refused(ceiling, reading, rule.tree_start, NO_TREE_START);
+    if room <= depth {
+        return Turn::Refused(8);
+    }
+    if start_refused != 0 {
+        return Turn::Refused(start_refused);
+    }
+    let opened = Level {
+        above: reading.state,
+        opened: reading.taken,
+    };
+    Turn::Stores(opened, looked(reading, rule.tree_start, reading.depth + 1))
+}
+
+// A close in full reading.
+fn full_close(file: &[u8], rule: Rule, ceiling: u32, reading: Reading, top: Level) -> Turn
+    requires { ⌜ RuleOf (now file) rule ⌝ ∗ ⌜ OneMore reading ⌝ ∗ ⌜ StatesIn rule reading top ⌝ }
+    ensures { λ r. ⌜ ((room : ℕ) → turnSays reading r ≡ fullTurn (ruleOf (now (file .entry))) room ceiling reading top closes) ⌝ }
+{
+    if reading.depth == 0 {
+        return Turn::Refused(7);
+    }
+    let state = tables::tree_move(file, rule, top.above, reading.state);
+    let tree_refused = look_refused(ceiling, reading, state, NO_TREE_MOVE);
+    if tree_refused != 0 {
+        return Turn::Refused(tree_refused);
+    }
+    Turn::Ends(looked(reading, state, reading.depth - 1))
+}
+
+// A close on a settled level at skip depth zero, which ends the level. Only a held level ends without a look.
+fn ends_level(
+    file: &[u8],
+    rule: Rule,
+    held: bool,
+    ceiling: u32,
+    reading: Reading,
+    top: Level,
+) -> Turn
+    requires { ⌜ RuleOf (now file) rule ⌝ ∗ ⌜ OneMore reading ⌝ ∗ ⌜ StatesIn rule reading top ⌝ ∗ ⌜ (held ≡ true → 0 < reading .depth) ⌝ }
+    ensures { λ r. ⌜ ((book : List ℕ) (room : ℕ) → held ≡ skipping.held book reading top → turnSays reading r ≡ endsLevel (ruleOf (now (file .entry))) book room ceiling reading top) ⌝ }
+{
+    if held {
+        let depth = reading.depth - 1;
+        return Turn::Ends(passed(reading, top.above, depth, reading.skip));
+    }
+    full_close(file, rule, ceiling, reading, top)
+}
+
+// An event that stands on a settled level: nothing is looked up until the close that ends the level.
+fn settled_turn(
+    file: &[u8],
+    rule: Rule,
+    held: bool,
+    ceiling: u32,
+    reading: Reading,
+    top: Level,
+    event: u16,
+) -> Turn
+    requires { ⌜ RuleOf (now file) rule ⌝ ∗ ⌜ OneMore reading ⌝ ∗ ⌜ StatesIn rule reading top ⌝ ∗ ⌜ (held ≡ true → 0 < reading .depth) ⌝ }
+    ensures { λ r. ⌜ ((book : List ℕ) (room : ℕ) → held ≡ skipping.held book reading top → turnSays reading r ≡ settledTurn (ruleOf (now (file .entry))) book room ceiling reading top (eventOf event)) ⌝ }
+{
+    if event == 0 {
+        let skip = reading.skip + 1;
+        let next = passed(reading, reading.state, reading.depth, skip);
+        return Turn::Stays(next);
+    }
+    if event == 1 {
+        if 0 < reading.skip {
+            let skip = reading.skip - 1;
+            return Turn::Stays(passed(reading, reading.state, reading.depth, skip));
+        }
+        return ends_level(file, rule, held, ceiling, reading, top);
+    }
+    Turn::Stays(passed(reading, reading.state, reading.depth, reading.skip))
+}
+
+// An event in full reading.
+fn full_turn(
+    file: &[u8],
+    rule: Rule,
+    room: usize,
+    ceiling: u32,
+    reading: Reading,
+    top: Level,
+    event: u16,
+) -> Turn
+    requires { ⌜ RuleOf (now file) rule ⌝ ∗ ⌜ OneMore reading ⌝ ∗ ⌜ StatesIn rule reading top ⌝ ∗ ⌜ event < rule .letters + 2 ⌝ }
+    ensures { λ r. ⌜ turnSays reading r ≡ fullTurn (ruleOf (now (file .entry))) room ceiling reading top (eventOf event) ⌝ }
+{
+    if event == 0 {
+        return full_open(rule, room, ceiling, reading);
+    }
+    if event == 1 {
+        return full_close(file, rule, ceiling, reading, top);
+    }
+    full_letter(file, rule, ceiling, reading, event - 2)
+}
+
+// An event: the event limit and the known letters, and then what the settled level or full reading makes of it.
+pub fn skip_event(
+    file: &[u8],
+    rule: Rule,
+    held: bool,
+    settled: bool,
+    room: usize,
+    ceiling: u32,
+    reading: Reading,
+    top: Level,
+    event: u16,
+) -> Turn
+    requires { ⌜ RuleOf (now file) rule ⌝ ∗ ⌜ Counted reading ⌝ ∗ ⌜ StatesIn rule reading top ⌝ ∗ ⌜ (held ≡ true → 0 < reading .depth) ⌝ }
+    ensures { λ r. ⌜ ((book : List ℕ) → Stands book reading top held settled → turnSays reading r ≡ skipEvent (ruleOf (now (file .entry))) book room ceiling reading top event) ⌝ }
+{
+    let known = rule.letters + 2;
+    if MOST_EVENTS <= reading.taken {
+        return Turn::Refused(16);
+    }
+    if known <= event {
+        return Turn::Refused(10);
+    }
+    if settled {
+        return settled_turn(file, rule, held, ceiling, reading, top, event);
+    }
+    full_turn(file, rule, room, ceiling, reading, top, event)
+}
