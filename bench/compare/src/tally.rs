@@ -1,10 +1,4 @@
 //! What was asked and answered in a run.
-//!
-//! Number 15 is given by no call: Reach begins with one state of at most 64, so the
-//! 64th round adds none. A whole document and the check program read with the
-//! largest ceiling from a fresh reading and a book of their own, so 9 and 13 are not
-//! theirs; 16 would take 8 GB of events, and the check program has room for half as
-//! many in a record.
 
 use std::collections::BTreeMap;
 
@@ -18,6 +12,13 @@ pub const FEED: Can = &[1, 2, 3, 4, 5, 6, 7, 8, 9, 10, 11, 13, 16];
 pub const FINISH: Can = &[1, 2, 3, 4, 5, 6, 12, 13];
 pub const WHOLE: Can = &[1, 2, 3, 4, 5, 6, 7, 8, 10, 11, 12];
 pub const LINE: Can = &[7, 8, 10, 11, 12];
+
+/// Why some numbers are not brought out.
+const NEVER: &str = "\
+-: that call does not give the number.
+15: no call does. Reach begins with one state of at most 64, so the 64th round adds none.
+9, 13, 16: a whole document and a program read from a fresh reading with the largest ceiling,
+    and 4,294,967,296 events are more than a program's record holds and than are asked here.";
 
 /// From so many inputs on, every number that can be given must have been.
 const ENOUGH: u64 = 10_000;
@@ -72,6 +73,7 @@ impl Tally {
             }
             println!();
         }
+        println!("{NEVER}");
     }
 
     /// The numbers that a run of so many inputs should have brought out and did not,
