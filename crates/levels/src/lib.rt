@@ -27,10 +27,10 @@ pub fn level_at(levels: &[Level], at: usize) -> Level
 }
 
 // Stores a record at a place, and nothing where the store has no such place.
-pub fn put_level(levels: &mut [Level], at: usize, level: Level)
-    ensures { λ _. ⌜ now (levels .exit) ≡ set (now (levels .entry)) at level ⌝ }
+pub fn put_level(levels: &mut [Level], place: usize, level: Level)
+    ensures { λ _. ⌜ now (levels .exit) ≡ set (now (levels .entry)) place level ⌝ }
 {
-    if at < levels.len() {
-        levels[at] = level;
+    if place < levels.len() {
+        levels[place] = level;
     }
 }
