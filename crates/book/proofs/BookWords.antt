@@ -14,12 +14,12 @@ use borrow.Author.Tests.{eqb-true, eq-eqb, not-true}
 use Rattle.meaning.specs.Answers.{_=?_}
 use Rattle.meaning.specs.RuleFile.{Rule, IsRule, treeMove}
 use Rattle.meaning.specs.SkipBook.{allBelow, listed, marked, noneOr, reachMarks, stillMarks, holdMarks, bookOf, wordOf, bit}
-use Rattle.meaning.proofs.Answered.{and-true, both-true}
-use Rattle.meaning.proofs.Truths.{truth, same-truth, true-is-not-false, implied, implies}
-use Rattle.meaning.proofs.Bools.{all-below, below-all, listed-length, listed-same}
-use Rattle.meaning.proofs.Marks.{marked-true, marked-below}
-use Rattle.meaning.proofs.Rounds.{most-states, start-marked}
-use Rattle.meaning.proofs.Bits.{bit-word, bit-and, bit-only, bit-zero, same-bits}
+use Rattle.meaning.proofs.laws.Answered.{and-true, both-true}
+use Rattle.meaning.proofs.laws.Truths.{truth, same-truth, true-is-not-false, implied, implies}
+use Rattle.meaning.proofs.laws.Bools.{all-below, below-all, listed-length, listed-same}
+use Rattle.meaning.proofs.skipbook.Marks.{marked-true, marked-below}
+use Rattle.meaning.proofs.skipbook.Rounds.{most-states, start-marked}
+use Rattle.meaning.proofs.skipbook.Bits.{bit-word, bit-and, bit-only, bit-zero, same-bits}
 use Rattle.book.specs.Sets.{StandsFor, firstOf, reachedWord, Reached, changing, Holds}
 use Rattle.book.proofs.Standing.{stands-as, stands-word, first-true, first-in}
 use Rattle.book.proofs.InRounds.{reached-below}

@@ -14,12 +14,12 @@ use borrow.Author.Tests.{eqb-true, eq-eqb}
 use Rattle.meaning.specs.Answers.{_=?_}
 use Rattle.meaning.specs.RuleFile.{Rule, IsRule}
 use Rattle.meaning.specs.SkipBook.{itself, marked, oneMove, round, onlyState, reachedIn, adds, roundsUsedUp, wordOf, bit}
-use Rattle.meaning.proofs.Answered.{and-true, both-true}
-use Rattle.meaning.proofs.Truths.{truth, same-truth, or-cases, or-true-left, or-true-right, never-both}
-use Rattle.meaning.proofs.Bools.{below-any, any-below, no-below-any, any-below-fails}
-use Rattle.meaning.proofs.Reaching.{reach-below}
-use Rattle.meaning.proofs.Rounds.{most-states, one-reaches, round-keeps, round-adds, round-true, round-same, round-length, nothing-added, marked-reached, next-round, first-round, only-true, only-start, only-length}
-use Rattle.meaning.proofs.Bits.{bit-word, word-of}
+use Rattle.meaning.proofs.laws.Answered.{and-true, both-true}
+use Rattle.meaning.proofs.laws.Truths.{truth, same-truth, or-cases, or-true-left, or-true-right, never-both}
+use Rattle.meaning.proofs.laws.Bools.{below-any, any-below, no-below-any, any-below-fails}
+use Rattle.meaning.proofs.skipbook.Reaching.{reach-below}
+use Rattle.meaning.proofs.skipbook.Rounds.{most-states, one-reaches, round-keeps, round-adds, round-true, round-same, round-length, nothing-added, marked-reached, next-round, first-round, only-true, only-start, only-length}
+use Rattle.meaning.proofs.skipbook.Bits.{bit-word, word-of}
 use Rattle.book.proofs.Standing.{stands-as, stands-only, stands-word}
 use Rattle.book.specs.Sets.{StandsFor, Moves, joined, reachedWord, Reached}
 

@@ -18,9 +18,9 @@ use Rattle.rule.proofs.Said.{fine-accepted}
 use Rattle.book.specs.declared.Made.{Made}
 use Rattle.book.specs.declared.Made.the-variants as made
 use Rattle.book.specs.Says.{madeSays}
-use Rattle.meaning.proofs.OneAnswer.{refusal-says}
-use Rattle.meaning.proofs.Accepted.{accepted-rule}
-use Rattle.meaning.proofs.Answered.{refuse-stops, refuse-passes, giving-passes, giving-stops}
+use Rattle.meaning.proofs.stores.OneAnswer.{refusal-says}
+use Rattle.meaning.proofs.rulefile.Accepted.{accepted-rule}
+use Rattle.meaning.proofs.laws.Answered.{refuse-stops, refuse-passes, giving-passes, giving-stops}
 
 module _ (file book : List ℕ) {R : Rule} (accepted : checkRule file ≡ given R) where
   pub book-short : length book < R .states + 1 → makeBook file book ≡ refused 6 0

@@ -16,10 +16,10 @@ use lib.Count.{trailingZeros}
 use borrow.Author.Tests.{ltb-true, ltb-false, lt-ltb, eqb-true, eq-eqb}
 use Rattle.meaning.specs.Answers.{_=?_, _<?_}
 use Rattle.meaning.specs.SkipBook.{anyBelow, bit, marked, wordOf}
-use Rattle.meaning.proofs.Answered.{and-true, both-true}
-use Rattle.meaning.proofs.Truths.{truth, same-truth, true-is-not-false, or-cases, or-true-left, or-true-right}
-use Rattle.meaning.proofs.Bools.{last-or-below, below-any, any-below, any-below-fails}
-use Rattle.meaning.proofs.Bits.{bit-zero, bit-or, bit-only, bit-past, word-of, lowest, cleared, cleared-less}
+use Rattle.meaning.proofs.laws.Answered.{and-true, both-true}
+use Rattle.meaning.proofs.laws.Truths.{truth, same-truth, true-is-not-false, or-cases, or-true-left, or-true-right}
+use Rattle.meaning.proofs.laws.Bools.{last-or-below, below-any, any-below, any-below-fails}
+use Rattle.meaning.proofs.skipbook.Bits.{bit-zero, bit-or, bit-only, bit-past, word-of, lowest, cleared, cleared-less}
 use Rattle.book.specs.Sets.{StandsFor, joined, firstOf}
 
 pub stands-empty : StandsFor 0 (λ p. false)

@@ -12,11 +12,11 @@ use Rattle.meaning.specs.Answers.{_=?_}
 use Rattle.meaning.specs.RuleFile as format
 use Rattle.meaning.specs.RuleFile.{Move, to, noMove, none, asMove, letterMove, treeMove, ruleOf}
 use Rattle.meaning.specs.SkipBook.{anyBelow, goesTo, noneOr}
-use Rattle.meaning.proofs.Answered.{if-true, if-false}
-use Rattle.meaning.proofs.Truths.{truth}
-use Rattle.meaning.proofs.Bools.{any-below-same}
-use Rattle.meaning.proofs.Rounds.{counts, most-states}
-use Rattle.meaning.proofs.Accepted.{accepted-is-rule}
+use Rattle.meaning.proofs.laws.Answered.{if-true, if-false}
+use Rattle.meaning.proofs.laws.Truths.{truth}
+use Rattle.meaning.proofs.laws.Bools.{any-below-same}
+use Rattle.meaning.proofs.skipbook.Rounds.{counts, most-states}
+use Rattle.meaning.proofs.rulefile.Accepted.{accepted-is-rule}
 use Rattle.rule.specs.declared.Rule.{Rule}
 use Rattle.rule.specs.Says.{numbersOf, RuleOf}
 use Rattle.rule.specs.Tables.{letterByte, treeByte}

@@ -7,9 +7,9 @@ use borrow.Author.Tests.{lt-ltb, le-ltb, eq-eqb, ne-eqb}
 use Rattle.meaning.specs.Answers.{given, refused, refuse_at_when_otherwise_, _giving_, _=?_}
 use Rattle.meaning.specs.RuleFile.{Rule, headerLength, number2, number4, checkRule}
 use Rattle.meaning.specs.CheckProgram.{EventsAt, eventsKind, eventsHeader, eventsPlace, frontCheck}
-use Rattle.meaning.proofs.Answered.{refuse-passes, refuse-stops, giving-passes, giving-stops, if-true, if-false}
+use Rattle.meaning.proofs.laws.Answered.{refuse-passes, refuse-stops, giving-passes, giving-stops, if-true, if-false}
 use Rattle.meaning.specs.Calls.{refusalSays}
-use Rattle.meaning.proofs.OneAnswer.{given-says, refusal-says}
+use Rattle.meaning.proofs.stores.OneAnswer.{given-says, refusal-says}
 use Rattle.input.specs.declared.Front.{Front}
 use Rattle.input.specs.declared.Front.the-variants as front
 use Rattle.input.specs.Says.{frontSays, headerAnswer}

@@ -14,9 +14,9 @@ use Rattle.meaning.specs.Calls.{Stored, refusalSays, topOf, notReading, reading
 use Rattle.meaning.specs.declared.Level.{Level}
 use Rattle.meaning.specs.declared.Reading.{Reading}
 use Rattle.meaning.specs.declared.Refusal.{Refusal}
-use Rattle.meaning.proofs.Accepted.{accepted-rule}
-use Rattle.meaning.proofs.Answered.{refuse-stops, refuse-passes, giving-given, giving-passes, giving-stops}
-use Rattle.meaning.proofs.ReadingCheck.{check-says, check-passes, feed-checked, feed-unchecked, finish-checked, finish-unchecked}
+use Rattle.meaning.proofs.rulefile.Accepted.{accepted-rule}
+use Rattle.meaning.proofs.laws.Answered.{refuse-stops, refuse-passes, giving-given, giving-passes, giving-stops}
+use Rattle.meaning.proofs.stores.ReadingCheck.{check-says, check-passes, feed-checked, feed-unchecked, finish-checked, finish-unchecked}
 use Rattle.rule.specs.Says.{numbersOf, checkedSays, checkAnswer, RuleOf}
 use Rattle.rule.specs.declared.Rule.{Rule}
 use Rattle.rule.specs.declared.Checked.{Checked}

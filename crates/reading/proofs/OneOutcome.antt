@@ -10,7 +10,7 @@ use Rattle.meaning.specs.declared.End.{End}
 use Rattle.meaning.specs.declared.Fed.{Fed}
 use Rattle.meaning.specs.declared.Level.{Level}
 use Rattle.meaning.specs.declared.Reading.{Reading}
-use Rattle.meaning.proofs.OneAnswer.{refusal-says, feeding-says, end-says}
+use Rattle.meaning.proofs.stores.OneAnswer.{refusal-says, feeding-says, end-says}
 use Rattle.reading.specs.Feeding.{FedIs}
 use Rattle.reading.specs.Checks.{begunSays}
 use Rattle.reading.specs.Whole.{ReadIs}

@@ -15,10 +15,10 @@ use Rattle.meaning.specs.declared.Reading.{Reading}
 use Rattle.meaning.specs.declared.Feeding.the-variants as feeding
 use Rattle.meaning.specs.declared.Level.{Level}
 use Rattle.meaning.specs.declared.Refusal.{Refusal}
-use Rattle.meaning.proofs.Accepted.{accepted-is-rule}
-use Rattle.meaning.proofs.Answered.{giving-stops}
-use Rattle.meaning.proofs.StillReading.{reading-is, fed-reading}
-use Rattle.meaning.proofs.Whole.{fresh-reading, madeBook, made-says, made-length, whole-refused, whole-made, whole-feeds, whole-finishes}
+use Rattle.meaning.proofs.rulefile.Accepted.{accepted-is-rule}
+use Rattle.meaning.proofs.laws.Answered.{giving-stops}
+use Rattle.meaning.proofs.stores.StillReading.{reading-is, fed-reading}
+use Rattle.meaning.proofs.stores.Whole.{fresh-reading, madeBook, made-says, made-length, whole-refused, whole-made, whole-feeds, whole-finishes}
 use Rattle.rule.specs.declared.Rule.{Rule}
 use Rattle.rule.specs.declared.Checked.{Checked}
 use Rattle.rule.specs.declared.Checked.the-variants as checked

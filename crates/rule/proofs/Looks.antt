@@ -9,7 +9,7 @@ use lib.ListN.{length, getD}
 use lib.Seq.{getD-take, getD-drop}
 use Rattle.meaning.specs.Answers.{given}
 use Rattle.meaning.specs.RuleFile.{Rule, none, part, checkRule, asMove, letterMove, treeMove, classOf}
-use Rattle.meaning.proofs.Accepted.{accepted-is-rule, letter-part, tree-part, class-part}
+use Rattle.meaning.proofs.rulefile.Accepted.{accepted-is-rule, letter-part, tree-part, class-part}
 use Rattle.rule.specs.Tables.{letterByte, treeByte, classByte}
 
 -- inside a list what would stand past its end does not matter

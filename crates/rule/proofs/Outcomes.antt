@@ -3,7 +3,7 @@ use mathlib.Core.Path.{_≡_, sym, ap, _∙_}
 use Rattle.meaning.specs.Answers.{Answer, given, _andThen_, _giving_}
 use Rattle.meaning.specs.Calls.{refusalSays}
 use Rattle.meaning.specs.declared.Refusal.{Refusal}
-use Rattle.meaning.proofs.Answered.{andThen-passes, andThen-stops, giving-passes, giving-stops}
+use Rattle.meaning.proofs.laws.Answered.{andThen-passes, andThen-stops, giving-passes, giving-stops}
 use Rattle.rule.specs.declared.check.Outcome.{Outcome}
 use Rattle.rule.specs.declared.check.Outcome.the-variants as outcome
 use Rattle.rule.specs.declared.Rule.{Rule}

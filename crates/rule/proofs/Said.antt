@@ -9,8 +9,8 @@ use Rattle.meaning.specs.RuleFile as format
 use Rattle.meaning.specs.RuleFile.{checkRule}
 use Rattle.meaning.specs.Calls.{refusalSays}
 use Rattle.meaning.specs.declared.Refusal.{Refusal}
-use Rattle.meaning.proofs.Answered.{giving-given}
-use Rattle.meaning.proofs.OneAnswer.{refusal-says}
+use Rattle.meaning.proofs.laws.Answered.{giving-given}
+use Rattle.meaning.proofs.stores.OneAnswer.{refusal-says}
 use Rattle.rule.specs.declared.Rule.{Rule}
 use Rattle.rule.specs.declared.Checked.{Checked}
 use Rattle.rule.specs.declared.Checked.the-variants as checked

@@ -9,7 +9,7 @@ use lib.Seq.{drop-cons, drop-length}
 use borrow.Author.Tests.{lt-ltb, le-ltb, eq-eqb, ne-eqb}
 use Rattle.meaning.specs.Answers.{given, refused}
 use Rattle.meaning.specs.RuleFile.{number2, number4, recordCheck, tableCheck, headerLength}
-use Rattle.meaning.proofs.Answered.{refuse-passes, refuse-stops}
+use Rattle.meaning.proofs.laws.Answered.{refuse-passes, refuse-stops}
 
 -- ---- a record
 

@@ -11,7 +11,7 @@ use borrow.Author.Tests.{lt-leb, leb-false, eq-eqb, ne-eqb}
 use lib.ListN.{length, getD, take, drop, length-append, length-take, length-drop}
 use lib.Seq.{take-suc, take-add, take-length, length-take-le, drop-drop, getD-drop}
 use Rattle.meaning.specs.Answers.{_=?_, _≤?_, if_then_else_}
-use Rattle.meaning.proofs.Answered.{if-true, if-false}
+use Rattle.meaning.proofs.laws.Answered.{if-true, if-false}
 use Rattle.turning.specs.PassingOver.{openings, closings, unknowns, total, Passing, passNone, passOne, oneMore, joined, DepthsOf, PassedIn}
 use Rattle.turning.specs.declared.passing.Depths.{Depths}
 

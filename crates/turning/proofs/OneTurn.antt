@@ -19,11 +19,11 @@ use Rattle.meaning.specs.declared.Feeding.the-variants as feeding
 use Rattle.meaning.specs.declared.Level.{Level}
 use Rattle.meaning.specs.declared.Reading.{Reading}
 use Rattle.meaning.specs.declared.Refusal.{Refusal}
-use Rattle.meaning.proofs.Accepted.{accepted-is-rule}
-use Rattle.meaning.proofs.FeedLaws.{feed-taken, feed-refused, feed-none}
-use Rattle.meaning.proofs.StillReading.{IsReading, reading-is, still-reading}
-use Rattle.meaning.proofs.StoreView.{step-turned}
-use Rattle.meaning.proofs.Turns.{Turned, passes, endsHeld, takesLetter, storesOpen, endsLooked}
+use Rattle.meaning.proofs.rulefile.Accepted.{accepted-is-rule}
+use Rattle.meaning.proofs.laws.FeedLaws.{feed-taken, feed-refused, feed-none}
+use Rattle.meaning.proofs.stores.StillReading.{IsReading, reading-is, still-reading}
+use Rattle.meaning.proofs.stores.StoreView.{step-turned}
+use Rattle.meaning.proofs.stores.Turns.{Turned, passes, endsHeld, takesLetter, storesOpen, endsLooked}
 use Rattle.rule.specs.declared.Rule.{Rule}
 use Rattle.turning.specs.Turns.{Ready, Stands, Feeds, over}
 use Rattle.turning.specs.PassingOver.{passedOn, PassesOver}

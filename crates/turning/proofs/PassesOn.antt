@@ -17,8 +17,8 @@ use Rattle.meaning.specs.Skipping.{held, settled, passed, settledTurn, skipTurn
 use Rattle.meaning.specs.Calls.{topOf, storedAfter, storeStep}
 use Rattle.meaning.specs.declared.Level.{Level}
 use Rattle.meaning.specs.declared.Reading.{Reading}
-use Rattle.meaning.proofs.FeedLaws.{feed-taken}
-use Rattle.meaning.proofs.Answered.{if-true, refuse-passes, giving-passes}
+use Rattle.meaning.proofs.laws.FeedLaws.{feed-taken}
+use Rattle.meaning.proofs.laws.Answered.{if-true, refuse-passes, giving-passes}
 use Rattle.turning.specs.Turns.{over}
 use Rattle.turning.specs.PassingOver.{openings, closings, unknowns, total, Passing, passedOn, PassesOver}
 use Rattle.turning.specs.declared.PassedOver.{PassedOver}

@@ -14,9 +14,9 @@ use Rattle.meaning.specs.SkipBook.{inStill}
 use Rattle.meaning.specs.Skipping.{held, settled}
 use Rattle.meaning.specs.declared.Reading.{Reading}
 use Rattle.meaning.specs.declared.Level.{Level}
-use Rattle.meaning.proofs.Answered.{and-true, refuse-passes}
-use Rattle.meaning.proofs.Bools.{or-true-right}
-use Rattle.meaning.proofs.Accepted.{accepted-is-rule}
+use Rattle.meaning.proofs.laws.Answered.{and-true, refuse-passes}
+use Rattle.meaning.proofs.laws.Bools.{or-true-right}
+use Rattle.meaning.proofs.rulefile.Accepted.{accepted-is-rule}
 use Rattle.rule.proofs.Looks.{letter-look, tree-look, class-look}
 use Rattle.rule.specs.Tables.{letterByte, treeByte, classByte}
 use Rattle.rule.specs.Says.{numbersOf, RuleOf}

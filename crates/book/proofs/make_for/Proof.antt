@@ -12,7 +12,7 @@ use Rattle.meaning.specs.RuleFile as format
 use Rattle.meaning.specs.RuleFile.{ruleOf}
 use Rattle.meaning.specs.Calls.{refusalSays}
 use Rattle.meaning.specs.SkipBook.{bookOf, roundsUsedUp}
-use Rattle.meaning.proofs.Accepted.{accepted-is-rule}
+use Rattle.meaning.proofs.rulefile.Accepted.{accepted-is-rule}
 use Rattle.book.specs.Sets.{Reached}
 use Rattle.book.specs.Says.{madeSays}
 use Rattle.book.proofs.Walked.{few-states, states-are}

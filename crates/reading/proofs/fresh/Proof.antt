@@ -3,7 +3,7 @@
 use borrow.Author.Needs.{needs}
 use mathlib.Core.Path.{sym}
 use Rattle.meaning.specs.Calls.{refusalSays, freshCall}
-use Rattle.meaning.proofs.Answered.{giving-passes, giving-stops}
+use Rattle.meaning.proofs.laws.Answered.{giving-passes, giving-stops}
 use Rattle.rule.proofs.Said.{refused-check}
 use Rattle.reading.specs.Checks.{begunSays}
 use Rattle.reading.proofs.Checks.{ruled-by}

@@ -8,7 +8,7 @@ use Prim.Native.Nat.{ℕ, _≤_, _<_, _-_}
 use native.Mathlib.Omega.{arith}
 use denote.Ref.{now}
 use Rattle.meaning.specs.SkipBook.{roundsUsedUp}
-use Rattle.meaning.proofs.Bools.{below-any, any-below-fails}
+use Rattle.meaning.proofs.laws.Bools.{below-any, any-below-fails}
 use Rattle.book.proofs.InRounds.{LastAdds, last-same, last-other}
 use Rattle.book.proofs.rounds.last_adds.Statement.{statement}
 use Rattle.book.proofs.rounds.last_adds.Tie as tie

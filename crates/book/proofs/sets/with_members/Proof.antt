@@ -4,7 +4,7 @@
 use native.Mathlib.Omega.{arith}
 use Prim.Native.Nat.{_<_}
 use lib.Count.{trailingZeros}
-use Rattle.meaning.proofs.Bits.{lowest, cleared-less}
+use Rattle.meaning.proofs.skipbook.Bits.{lowest, cleared-less}
 use Rattle.book.proofs.Standing.{Turn, turn-first, turn-next, turn-last}
 use Rattle.book.proofs.sets.with_members.Statement.{statement}
 use Rattle.book.proofs.sets.with_members.Tie as tie

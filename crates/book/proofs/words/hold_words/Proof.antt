@@ -6,7 +6,7 @@ use Prim.Native.Nat.{_≤_, _<_, _-_}
 use native.Mathlib.Omega.{arith}
 use Rattle.meaning.specs.RuleFile.{ruleOf}
 use Rattle.meaning.specs.SkipBook.{holdMarks, wordOf}
-use Rattle.meaning.proofs.Accepted.{accepted-is-rule}
+use Rattle.meaning.proofs.rulefile.Accepted.{accepted-is-rule}
 use Rattle.book.specs.Sets.{Reached, Holds}
 use Rattle.book.proofs.Standing.{Filled, filled-first, filled-next}
 use Rattle.book.proofs.Walked.{few-states, states-are}

@@ -11,8 +11,8 @@ use lib.ListN.{length, take, drop}
 use Rattle.meaning.specs.RuleFile as format
 use Rattle.meaning.specs.RuleFile.{ruleOf}
 use Rattle.meaning.specs.SkipBook.{stillMarks, wordOf}
-use Rattle.meaning.proofs.Accepted.{accepted-is-rule}
-use Rattle.meaning.proofs.Rounds.{most-states}
+use Rattle.meaning.proofs.rulefile.Accepted.{accepted-is-rule}
+use Rattle.meaning.proofs.skipbook.Rounds.{most-states}
 use Rattle.book.proofs.Walked.{few-states, states-are}
 use Rattle.book.proofs.BookWords.{still-is-word, book-written}
 use Rattle.book.proofs.words.write_book.Statement.{statement}

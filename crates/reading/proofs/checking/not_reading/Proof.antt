@@ -14,7 +14,7 @@ use Rattle.meaning.specs.RuleFile.{isState}
 use Rattle.meaning.specs.Skipping.{settled}
 use Rattle.meaning.specs.Calls.{topOf, notReading}
 use Rattle.meaning.specs.declared.Level.{Level}
-use Rattle.meaning.proofs.Bools.{all-below}
+use Rattle.meaning.proofs.laws.Bools.{all-below}
 use Rattle.reading.specs.Checks.{abovesIn, Seen}
 use Rattle.reading.proofs.checking.not_reading.Statement.{statement}
 use Rattle.reading.proofs.checking.not_reading.Tie as tie

@@ -2,7 +2,7 @@
 -- Assumes nothing.
 use mathlib.Core.Path.{_∙_}
 use Rattle.meaning.specs.Calls.{refusalSays}
-use Rattle.meaning.proofs.OneAnswer.{refusal-says}
+use Rattle.meaning.proofs.stores.OneAnswer.{refusal-says}
 use Rattle.book.specs.Says.{madeSays}
 use borrow.Author.Needs.{needs}
 use Rattle.reading.proofs.document.make_rule.Statement.{statement}

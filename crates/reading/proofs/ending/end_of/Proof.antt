@@ -4,7 +4,7 @@ use borrow.Author.Needs.{needs}
 use mathlib.Core.Path.{sym, _∙_}
 use borrow.Author.Tests.{lt-ltb, le-ltb}
 use Rattle.meaning.specs.Calls.{endSays, refusalSays, endOf}
-use Rattle.meaning.proofs.Answered.{refuse-stops, refuse-passes}
+use Rattle.meaning.proofs.laws.Answered.{refuse-stops, refuse-passes}
 use Rattle.turning.proofs.Turned.{class-is, class-in}
 use Rattle.reading.proofs.ending.end_of.Statement.{statement}
 use Rattle.reading.proofs.ending.end_of.Tie as tie

@@ -4,7 +4,7 @@ use borrow.Author.Needs.{needs}
 use mathlib.Core.Path.{sym}
 use borrow.Author.Tests.{lt-ltb, le-ltb}
 use Rattle.meaning.specs.Calls.{openPlace}
-use Rattle.meaning.proofs.Answered.{if-true, if-false}
+use Rattle.meaning.proofs.laws.Answered.{if-true, if-false}
 use Rattle.reading.proofs.ending.open_place.Statement.{statement}
 use Rattle.reading.proofs.ending.open_place.Tie as tie
 

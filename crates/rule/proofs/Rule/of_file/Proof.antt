@@ -4,7 +4,7 @@ use mathlib.Core.Path.{sym, ap, _∙_}
 use native.Mathlib.Omega.{arith}
 use denote.Ref.{now}
 use Rattle.meaning.specs.RuleFile.{byteAt}
-use Rattle.meaning.proofs.Accepted.{record-whole}
+use Rattle.meaning.proofs.rulefile.Accepted.{record-whole}
 use Rattle.rule.specs.Says.{checkedSays}
 use Rattle.rule.specs.Checks.{numbersAnswer}
 use Rattle.rule.proofs.Outcomes.{passes-given, passes-rest, refused-rest, fine-rest, numbers-refused}

@@ -7,7 +7,7 @@ use native.Mathlib.Omega.{arith}
 use lib.ListN.{take, drop}
 use denote.Ref.{now}
 use Rattle.meaning.specs.RuleFile.{part, tableCheck, headerLength}
-use Rattle.meaning.proofs.Accepted.{record-whole}
+use Rattle.meaning.proofs.rulefile.Accepted.{record-whole}
 use Rattle.rule.specs.Checks.{bodyCheck, inRange}
 use Rattle.rule.proofs.Outcomes.{passes-given, passes-rest, refused-says}
 use Rattle.rule.proofs.check.body_check.Statement.{statement}

@@ -3,7 +3,7 @@
 use mathlib.Core.Path.{sym, ap, _∙_}
 use mathlib.Core.Bool.{not}
 use Rattle.meaning.specs.RuleFile.{numbersCheck, isStates, isLetters}
-use Rattle.meaning.proofs.Answered.{refuse-passes, refuse-stops}
+use Rattle.meaning.proofs.laws.Answered.{refuse-passes, refuse-stops}
 use Rattle.rule.specs.Checks.{outcomeSays, ruleFrom, inRange}
 use borrow.Author.Needs.{needs}
 use Rattle.rule.proofs.check.numbers_check.Statement.{statement}

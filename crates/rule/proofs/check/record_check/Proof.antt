@@ -2,7 +2,7 @@
 -- Assumes nothing.
 use mathlib.Core.Path.{sym, _∙_}
 use denote.Ref.{now}
-use Rattle.meaning.proofs.RoundTrip.{record-passes}
+use Rattle.meaning.proofs.rulefile.RoundTrip.{record-passes}
 use Rattle.rule.specs.Checks.{outcomeSays}
 use Rattle.rule.proofs.Steps.{record-short, record-kind, record-length, record-cut}
 use borrow.Author.Needs.{needs}

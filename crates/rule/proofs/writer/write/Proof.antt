@@ -9,7 +9,7 @@ use denote.Ref.{now}
 use Rattle.meaning.specs.Answers.{Answer, given}
 use Rattle.meaning.specs.Calls.{refusalSays}
 use Rattle.meaning.specs.RuleFile.{writeCheck, outputAfter, ruleBytes, recordBytes, numbersBody, bytes2, bytes4, letterRecord, treeRecord, classRecord, fileLength}
-use Rattle.meaning.proofs.RoundTrip.{writes, bytes-length}
+use Rattle.meaning.proofs.rulefile.RoundTrip.{writes, bytes-length}
 use Rattle.rule.specs.Says.{writtenSays}
 use Rattle.rule.specs.Checks.{ruleFrom}
 use Rattle.rule.proofs.Laying.{laid-next, laid-front}

@@ -7,7 +7,7 @@ use borrow.Author.Tests.{lt-ltb, le-ltb}
 use Rattle.meaning.specs.Answers.{given, refused}
 use Rattle.meaning.specs.RuleFile.{fileLength}
 use Rattle.meaning.specs.Calls.{refusalSays}
-use Rattle.meaning.proofs.Answered.{refuse-passes, refuse-stops}
+use Rattle.meaning.proofs.laws.Answered.{refuse-passes, refuse-stops}
 use Rattle.rule.specs.Says.{writtenSays}
 use Rattle.rule.specs.Checks.{ruleFrom, givenCheck}
 use Rattle.rule.proofs.Outcomes.{passes-rest, refused-rest}

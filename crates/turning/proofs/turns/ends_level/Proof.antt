@@ -3,7 +3,7 @@
 use borrow.Author.Needs.{needs}
 use mathlib.Core.Path.{sym, _∙_}
 use Rattle.meaning.specs.Skipping.{endsLevel}
-use Rattle.meaning.proofs.Answered.{if-true, if-false}
+use Rattle.meaning.proofs.laws.Answered.{if-true, if-false}
 use Rattle.turning.specs.Turns.{turnSays}
 use Rattle.turning.proofs.turns.ends_level.Statement.{statement}
 use Rattle.turning.proofs.turns.ends_level.Tie as tie

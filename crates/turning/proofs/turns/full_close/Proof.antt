@@ -6,7 +6,7 @@ use mathlib.Core.Path.{sym, _∙_}
 use native.Mathlib.Omega.{arith}
 use borrow.Author.Tests.{eq-eqb}
 use Rattle.meaning.specs.FullReading.{fullTurn, noMoveNumber, treeTable}
-use Rattle.meaning.proofs.Answered.{refuse-stops}
+use Rattle.meaning.proofs.laws.Answered.{refuse-stops}
 use Rattle.turning.specs.Turns.{turnSays}
 use Rattle.turning.proofs.Turned.{close-turn, look-gives, look-refuses}
 use Rattle.turning.proofs.turns.full_close.Statement.{statement}

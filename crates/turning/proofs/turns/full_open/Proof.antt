@@ -4,7 +4,7 @@ use borrow.Author.Needs.{needs}
 use mathlib.Core.Path.{sym, _∙_}
 use borrow.Author.Tests.{le-leb}
 use Rattle.meaning.specs.FullReading.{fullTurn, noMoveNumber, startTable, opened}
-use Rattle.meaning.proofs.Answered.{refuse-stops}
+use Rattle.meaning.proofs.laws.Answered.{refuse-stops}
 use Rattle.turning.specs.Turns.{turnSays}
 use Rattle.turning.proofs.Turned.{open-turn, look-gives, look-refuses}
 use Rattle.turning.proofs.turns.full_open.Statement.{statement}

@@ -2,7 +2,7 @@
 -- Assumes nothing.
 use mathlib.Core.Path.{sym, _∙_}
 use borrow.Author.Tests.{le-leb, lt-leb, eq-eqb, ne-eqb}
-use Rattle.meaning.proofs.Answered.{if-true, if-false}
+use Rattle.meaning.proofs.laws.Answered.{if-true, if-false}
 use Rattle.turning.specs.Turns.{lookNumber}
 use Rattle.turning.proofs.turns.look_refused.Statement.{statement}
 use Rattle.turning.proofs.turns.look_refused.Tie as tie

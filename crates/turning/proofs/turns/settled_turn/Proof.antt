@@ -6,7 +6,7 @@ use mathlib.Core.Path.{sym, _∙_}
 use native.Mathlib.Omega.{arith}
 use borrow.Author.Tests.{lt-ltb, le-ltb}
 use Rattle.meaning.specs.Skipping.{settledTurn}
-use Rattle.meaning.proofs.Answered.{if-true, if-false}
+use Rattle.meaning.proofs.laws.Answered.{if-true, if-false}
 use Rattle.turning.specs.Turns.{turnSays}
 use Rattle.turning.proofs.Turned.{opens-is, closes-is, letter-is}
 use Rattle.turning.proofs.turns.settled_turn.Statement.{statement}

@@ -10,7 +10,7 @@ use denote.Ref.{now}
 use Rattle.meaning.specs.RuleFile.{ruleOf}
 use Rattle.meaning.specs.FullReading.{knownEvent}
 use Rattle.meaning.specs.Skipping.{skipTurn, skipEvent}
-use Rattle.meaning.proofs.Answered.{refuse-stops, refuse-passes, if-true, if-false}
+use Rattle.meaning.proofs.laws.Answered.{refuse-stops, refuse-passes, if-true, if-false}
 use Rattle.turning.specs.Turns.{turnSays}
 use Rattle.turning.proofs.Turned.{known-turn, letters-are, few-letters}
 use Rattle.turning.proofs.turns.skip_event.Statement.{statement}

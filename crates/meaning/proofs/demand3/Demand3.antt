@@ -20,15 +20,15 @@ use Rattle.meaning.specs.Skipping.{held, settled, passed, endsLevel, set
 use Rattle.meaning.specs.PassedOver.{levelHeld, levelSettled, outsideSettled, closesStill, passedOver}
 use Rattle.meaning.specs.PassedOver.{thenCount, notPassedOver}
 use Rattle.meaning.specs.Calls.{Judged, endOf}
-use Rattle.meaning.proofs.Answered.{if-true, if-false, both-true, refuse-given, refuse-passes}
-use Rattle.meaning.proofs.Truths.{true-is-not-false, by-cases, or-true-first, or-true, or-true-left, or-true-right}
-use Rattle.meaning.proofs.Truths.{and-false-right}
-use Rattle.meaning.proofs.Reaching.{letter-below, tree-below, start-below, initial-below}
-use Rattle.meaning.proofs.Reaching.{letter-ends-tree, tree-ends-tree, start-ends-tree}
-use Rattle.meaning.proofs.Reaching.{reach-itself, reach-letter, reach-tree, still-stays, hold-stays, hold-returns}
-use Rattle.meaning.proofs.Following.{Follows, bothGive, refuse-each, refuse-first, if-second, look-first, look-each}
-use Rattle.meaning.proofs.Following.{giving-each, follows-so, where-first-gives, feed-each}
-use Rattle.meaning.proofs.Runs.{freshRun, fullRun, skipRun, endOfRun}
+use Rattle.meaning.proofs.laws.Answered.{if-true, if-false, both-true, refuse-given, refuse-passes}
+use Rattle.meaning.proofs.laws.Truths.{true-is-not-false, by-cases, or-true-first, or-true, or-true-left, or-true-right}
+use Rattle.meaning.proofs.laws.Truths.{and-false-right}
+use Rattle.meaning.proofs.skipbook.Reaching.{letter-below, tree-below, start-below, initial-below}
+use Rattle.meaning.proofs.skipbook.Reaching.{letter-ends-tree, tree-ends-tree, start-ends-tree}
+use Rattle.meaning.proofs.skipbook.Reaching.{reach-itself, reach-letter, reach-tree, still-stays, hold-stays, hold-returns}
+use Rattle.meaning.proofs.laws.Following.{Follows, bothGive, refuse-each, refuse-first, if-second, look-first, look-each}
+use Rattle.meaning.proofs.laws.Following.{giving-each, follows-so, where-first-gives, feed-each}
+use Rattle.meaning.proofs.demand3.Runs.{freshRun, fullRun, skipRun, endOfRun}
 
 -- ---- what relates the two readings
 

@@ -14,11 +14,11 @@ use Rattle.meaning.specs.RuleFile.{Rule, checkRule, ruleOf}
 use Rattle.meaning.specs.FullReading.{Went, freshReading, feedBy}
 use Rattle.meaning.specs.SkipBook.{wordOf, holdMarks, bookOf, makeBook, bookAfter}
 use Rattle.meaning.specs.Calls.{Stored, freshCall, storeStep, topOf, endOf, readingCheck, feedCall, finishCall, finishFed, largestCeiling, readWith, wholeFrom, wholeDocument}
-use Rattle.meaning.proofs.Accepted.{accepted-rule, accepted-is-rule}
-use Rattle.meaning.proofs.Answered.{giving-given, giving-passes, giving-stops, refuse-given}
-use Rattle.meaning.proofs.Bools.{listed-length}
-use Rattle.meaning.proofs.ReadingCheck.{check-passes, feed-checked, finish-checked, fed-checked}
-use Rattle.meaning.proofs.StillReading.{IsReading, reading-is}
+use Rattle.meaning.proofs.rulefile.Accepted.{accepted-rule, accepted-is-rule}
+use Rattle.meaning.proofs.laws.Answered.{giving-given, giving-passes, giving-stops, refuse-given}
+use Rattle.meaning.proofs.laws.Bools.{listed-length}
+use Rattle.meaning.proofs.stores.ReadingCheck.{check-passes, feed-checked, finish-checked, fed-checked}
+use Rattle.meaning.proofs.stores.StillReading.{IsReading, reading-is}
 
 -- ---- the calls in turn
 

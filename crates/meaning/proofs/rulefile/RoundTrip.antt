@@ -13,8 +13,8 @@ use lib.Seq.{getD-append-add, take-at, drop-at, drop-cons, take-add, drop-drop, 
 use borrow.Author.Tests.{ltb-false, leb-true, eqb-true, le-ltb, eq-eqb}
 use Rattle.meaning.specs.Answers.{Answer, given, _≤?_}
 use Rattle.meaning.specs.RuleFile.{Rule, IsRule, isStates, isMove, isClass, isLetters, byteAt, number2, number4, bytes2, bytes4, part, recordBytes, numbersBody, ruleBytes, ruleOf, checkRule, recordCheck, numbersCheck, tableCheck, writeCheck, outputAfter, letterRecord, treeRecord, classRecord, fileLength, headerLength, numbersLength, mostStates, mostLetters}
-use Rattle.meaning.proofs.Answered.{refuse-passes, refuse-given, andThen-passes, andThen-given, not-false-true, true-not-false, and-true}
-use Rattle.meaning.proofs.Accepted.{Passed, passed, accepted-rule, accepted-length, accepted-is-rule, letter-part, tree-part, class-part, table-in, numbers-in, record-whole}
+use Rattle.meaning.proofs.laws.Answered.{refuse-passes, refuse-given, andThen-passes, andThen-given, not-false-true, true-not-false, and-true}
+use Rattle.meaning.proofs.rulefile.Accepted.{Passed, passed, accepted-rule, accepted-length, accepted-is-rule, letter-part, tree-part, class-part, table-in, numbers-in, record-whole}
 
 -- the longest file
 pub longest : fileLength mostStates mostLetters ≡ 20573

@@ -11,11 +11,11 @@ use borrow.Author.Tests.{ltb-true, lt-ltb, leb-true, eqb-true, eq-eqb, not-true}
 use Rattle.meaning.specs.Answers.{_=?_, _≤?_}
 use Rattle.meaning.specs.RuleFile.{Rule, IsRule, Move, noMove, to, none, asMove, letterMove, treeMove, isStates}
 use Rattle.meaning.specs.SkipBook.{canEndTree, Reach, itself, byLetter, byTree, anyBelow, marked, goesTo, oneMove, round, rounds, onlyState, reachedIn, adds, reachMarks, roundsUsedUp}
-use Rattle.meaning.proofs.Answered.{if-true, if-false, and-true, both-true}
-use Rattle.meaning.proofs.Reaching.{letter-below, tree-below, reach-below}
-use Rattle.meaning.proofs.Truths.{truth, same-truth, or-cases, or-true-left, or-true-right, true-is-not-false, not-without, never-both}
-use Rattle.meaning.proofs.Bools.{below-any, any-below, no-below-any, any-below-fails, any-below-same, listed-length, listed-same}
-use Rattle.meaning.proofs.Marks.{marked-below, marked-true, countBelow, count-most, count-less, count-some}
+use Rattle.meaning.proofs.laws.Answered.{if-true, if-false, and-true, both-true}
+use Rattle.meaning.proofs.skipbook.Reaching.{letter-below, tree-below, reach-below}
+use Rattle.meaning.proofs.laws.Truths.{truth, same-truth, or-cases, or-true-left, or-true-right, true-is-not-false, not-without, never-both}
+use Rattle.meaning.proofs.laws.Bools.{below-any, any-below, no-below-any, any-below-fails, any-below-same, listed-length, listed-same}
+use Rattle.meaning.proofs.skipbook.Marks.{marked-below, marked-true, countBelow, count-most, count-less, count-some}
 
 -- ---- moves
 

@@ -16,10 +16,10 @@ use Rattle.meaning.specs.Hedges.{wellNested}
 use Rattle.meaning.specs.SkipBook.{inHold}
 use Rattle.meaning.specs.Skipping.{held, settled}
 use Rattle.meaning.specs.Calls.{Judged, Stored, topOf, feedCall, finishCall}
-use Rattle.meaning.proofs.StoreView.{levelsOf, OneView}
-use Rattle.meaning.proofs.Runs.{skipRun, endOfRun}
-use Rattle.meaning.proofs.Exchange.{exchange}
-use Rattle.meaning.proofs.Demand3Calls.{ReadsTo, fed-is-run, finish-is-end}
+use Rattle.meaning.proofs.stores.StoreView.{levelsOf, OneView}
+use Rattle.meaning.proofs.demand3.Runs.{skipRun, endOfRun}
+use Rattle.meaning.proofs.demand3.Exchange.{exchange}
+use Rattle.meaning.proofs.demand3.Demand3Calls.{ReadsTo, fed-is-run, finish-is-end}
 
 -- whether a level is settled is the same over the store and over its levels
 held-same : (book : List ℕ) (q depth : ℕ) (store : List Level)

@@ -10,8 +10,8 @@ use lib.ListN.{getD, List·getD-eq-default}
 use borrow.Author.Tests.{ltb-true, ltb-false}
 use Rattle.meaning.specs.Answers.{_<?_}
 use Rattle.meaning.specs.SkipBook.{listed, marked}
-use Rattle.meaning.proofs.Truths.{truth, true-is-not-false}
-use Rattle.meaning.proofs.Bools.{last-or-below, listed-length, listed-at}
+use Rattle.meaning.proofs.laws.Truths.{truth, true-is-not-false}
+use Rattle.meaning.proofs.laws.Bools.{last-or-below, listed-length, listed-at}
 
 -- ---- lists of n
 

@@ -12,8 +12,8 @@ use borrow.Author.Tests.{le-ltb, lt-ltb}
 use Rattle.meaning.specs.Answers.{Answer, given, refused, _<?_}
 use Rattle.meaning.specs.RuleFile.{Rule, byteAt, number2, number4, part, ruleOf, checkRule, recordCheck, numbersCheck, letterRecord, treeRecord, classRecord, fileLength, headerLength, numbersLength}
 use Rattle.meaning.specs.CheckProgram.{eventsHeader}
-use Rattle.meaning.proofs.Answered.{refuse-passes, andThen-stops}
-use Rattle.meaning.proofs.Accepted.{numbers-in, states-range, letters-range}
+use Rattle.meaning.proofs.laws.Answered.{refuse-passes, andThen-stops}
+use Rattle.meaning.proofs.rulefile.Accepted.{numbers-in, states-range, letters-range}
 
 module _ (input : List ℕ) (m : ℕ) (long : m ≤ length input) where
   abbrev front : List ℕ

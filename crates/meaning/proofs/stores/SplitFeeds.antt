@@ -10,8 +10,8 @@ use Rattle.meaning.specs.Answers.{Answer, given, refused}
 use Rattle.meaning.specs.RuleFile.{Rule}
 use Rattle.meaning.specs.FullReading.{Went, feedBy}
 use Rattle.meaning.specs.Calls.{Stored, storeStep, readingCheck, feedCall}
-use Rattle.meaning.proofs.FeedLaws.{feed-append}
-use Rattle.meaning.proofs.ReadingCheck.{feed-checked, feed-unchecked, fed-checked}
+use Rattle.meaning.proofs.laws.FeedLaws.{feed-append}
+use Rattle.meaning.proofs.stores.ReadingCheck.{feed-checked, feed-unchecked, fed-checked}
 
 module _ (file book : List ℕ) (ceiling : ℕ) (r : Reading) (store : List Level) (xs ys : List ℕ) where
   pub split-feeds : feedCall file book ceiling r store xs .ended ≡ given tt

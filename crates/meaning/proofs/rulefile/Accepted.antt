@@ -11,7 +11,7 @@ use lib.Seq.{length-take-le}
 use borrow.Author.Tests.{ltb-false, leb-true}
 use Rattle.meaning.specs.Answers.{given, _andThen_, _≤?_}
 use Rattle.meaning.specs.RuleFile.{Rule, IsRule, isStates, isState, isMove, isClass, isLetters, part, ruleOf, checkRule, recordCheck, numbersCheck, tableCheck, letterRecord, treeRecord, classRecord, fileLength, headerLength, numbersLength, mostStates, mostLetters}
-use Rattle.meaning.proofs.Answered.{refuse-given, andThen-given, not-false-true, and-true}
+use Rattle.meaning.proofs.laws.Answered.{refuse-given, andThen-given, not-false-true, and-true}
 
 -- a table that passes has every entry in range
 pub table-in : (good : ℕ → Bool) (place : ℕ) (xs : List ℕ) → tableCheck good place xs ≡ given tt

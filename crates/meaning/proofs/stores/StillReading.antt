@@ -17,12 +17,12 @@ use Rattle.meaning.specs.FullReading.{Event, Turn, looked, opened, blank
 use Rattle.meaning.specs.SkipBook.{inHold}
 use Rattle.meaning.specs.Skipping.{held, settled, passed}
 use Rattle.meaning.specs.Calls.{Stored, topOf, storedAfter, storeStep, notReading}
-use Rattle.meaning.proofs.Answered.{and-true, or-false, not-false-true, true-not-false}
-use Rattle.meaning.proofs.Bools.{below, all-below, below-all, both-false, true-is-not-false, not-true-false}
-use Rattle.meaning.proofs.FeedKeeps.{feed-keeps}
-use Rattle.meaning.proofs.Reaching.{letter-below, tree-below, start-below}
-use Rattle.meaning.proofs.StoreView.{step-turned}
-use Rattle.meaning.proofs.Turns.{Turned, passes, endsHeld, takesLetter, storesOpen, endsLooked}
+use Rattle.meaning.proofs.laws.Answered.{and-true, or-false, not-false-true, true-not-false}
+use Rattle.meaning.proofs.laws.Bools.{below, all-below, below-all, both-false, true-is-not-false, not-true-false}
+use Rattle.meaning.proofs.laws.FeedKeeps.{feed-keeps}
+use Rattle.meaning.proofs.skipbook.Reaching.{letter-below, tree-below, start-below}
+use Rattle.meaning.proofs.stores.StoreView.{step-turned}
+use Rattle.meaning.proofs.stores.Turns.{Turned, passes, endsHeld, takesLetter, storesOpen, endsLooked}
 
 -- ---- the conditions of number 13
 

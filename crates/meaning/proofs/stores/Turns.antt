@@ -13,8 +13,8 @@ use Rattle.meaning.specs.RuleFile.{Rule, Move, noMove, to, letterMove, t
 use Rattle.meaning.specs.FullReading.{Event, opens, closes, letter, eventOf, looked, opened, Table, look, Turn, stays, stores, ends, fullTurn, knownEvent, mostEvents}
 use Rattle.meaning.specs.SkipBook.{inStill}
 use Rattle.meaning.specs.Skipping.{held, settled, passed, endsLevel, settledTurn, skipTurn, skipEvent}
-use Rattle.meaning.proofs.Answered.{or-false}
-use Rattle.meaning.proofs.Bools.{true-is-not-false}
+use Rattle.meaning.proofs.laws.Answered.{or-false}
+use Rattle.meaning.proofs.laws.Bools.{true-is-not-false}
 
 -- ---- what is given has a property
 

@@ -11,7 +11,7 @@ use borrow.Author.Tests.{ltb-true, ltb-false, lt-ltb, le-ltb, eqb-true}
 use Rattle.meaning.specs.Answers.{_<?_}
 use Rattle.meaning.specs.FullReading.{Event, opens, closes, letter, eventOf}
 use Rattle.meaning.specs.Hedges.{Hedge, ε, _·_, ⟨_⟩·_, eventsOf, known, nestedOn, nestedFrom, knownEvents, wellNested}
-use Rattle.meaning.proofs.Answered.{and-true, both-true}
+use Rattle.meaning.proofs.laws.Answered.{and-true, both-true}
 
 -- ---- nesting of events in two parts
 

@@ -6,7 +6,7 @@ use Prim.Native.Nat.{ℕ, suc}
 use lib.ListN.{take}
 use Rattle.meaning.specs.Answers.{Answer, given, refused, _giving_}
 use Rattle.meaning.specs.FullReading.{Went, goOn, feedBy}
-use Rattle.meaning.proofs.FeedLaws.{feed-taken}
+use Rattle.meaning.proofs.laws.FeedLaws.{feed-taken}
 
 -- what a view makes of where a feed led to
 abbrev pub viewed : {A B : Type 0} → (A → B) → Went A → Went B

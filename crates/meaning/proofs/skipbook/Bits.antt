@@ -16,7 +16,7 @@ use lib.Count.{trailingZeros, under}
 use borrow.Author.Tests.{eqb-true, eqb-false}
 use Rattle.meaning.specs.Answers.{_=?_}
 use Rattle.meaning.specs.SkipBook.{marked, wordOf, bit}
-use Rattle.meaning.proofs.Truths.{truth}
+use Rattle.meaning.proofs.laws.Truths.{truth}
 
 -- ---- digit by digit
 

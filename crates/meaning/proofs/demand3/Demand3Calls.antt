@@ -14,15 +14,15 @@ use Rattle.meaning.specs.FullReading.{Went, Run, innermost, freshReading
 use Rattle.meaning.specs.SkipBook.{IsBook, makeBook, bookAfter}
 use Rattle.meaning.specs.PassedOver.{notPassedOver}
 use Rattle.meaning.specs.Calls.{Judged, Stored, storeStep, topOf, openPlace, endOf, feedCall, finishCall, readingCheck}
-use Rattle.meaning.proofs.Accepted.{accepted-is-rule}
-use Rattle.meaning.proofs.BookMade.{made-is-book}
-use Rattle.meaning.proofs.Rounds.{never-used-up}
-use Rattle.meaning.proofs.Runs.{freshRun, fullRun, skipRun, endOfRun}
-use Rattle.meaning.proofs.ReadingCheck.{feed-checked, finish-checked, fed-checked}
-use Rattle.meaning.proofs.StoreView.{levelsOf, OneView, store-is-levels}
-use Rattle.meaning.proofs.Whole.{madeBook, made-says, made-length, fresh-checked}
-use Rattle.meaning.proofs.ZeroBook.{Zeros, zero-book}
-use Rattle.meaning.proofs.Demand3.{demand-3}
+use Rattle.meaning.proofs.rulefile.Accepted.{accepted-is-rule}
+use Rattle.meaning.proofs.skipbook.BookMade.{made-is-book}
+use Rattle.meaning.proofs.skipbook.Rounds.{never-used-up}
+use Rattle.meaning.proofs.demand3.Runs.{freshRun, fullRun, skipRun, endOfRun}
+use Rattle.meaning.proofs.stores.ReadingCheck.{feed-checked, finish-checked, fed-checked}
+use Rattle.meaning.proofs.stores.StoreView.{levelsOf, OneView, store-is-levels}
+use Rattle.meaning.proofs.stores.Whole.{madeBook, made-says, made-length, fresh-checked}
+use Rattle.meaning.proofs.stores.ZeroBook.{Zeros, zero-book}
+use Rattle.meaning.proofs.demand3.Demand3.{demand-3}
 
 -- the book that a maker left is the rule's own
 pub made-own : (file lent : List ℕ) {count : ℕ} → makeBook file lent ≡ given count → IsBook (ruleOf file) (madeBook file lent)

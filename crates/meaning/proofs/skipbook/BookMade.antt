@@ -13,14 +13,14 @@ use borrow.Author.Tests.{eqb-true, eq-eqb, le-ltb}
 use Rattle.meaning.specs.Answers.{given, _=?_}
 use Rattle.meaning.specs.RuleFile.{Rule, IsRule, treeMove, checkRule, ruleOf}
 use Rattle.meaning.specs.SkipBook.{Reach, Still, Hold, noneOr, allBelow, listed, marked, adds, reachedIn, reachMarks, roundsUsedUp, stillMarks, holdMarks, wordOf, bit, bookOf, inStill, inHold, IsBook, makeBook, bookAfter}
-use Rattle.meaning.proofs.Answered.{refuse-given, refuse-passes, giving-given, giving-passes}
-use Rattle.meaning.proofs.Accepted.{accepted-rule, accepted-is-rule}
-use Rattle.meaning.proofs.Truths.{implied, implies}
-use Rattle.meaning.proofs.Bools.{no-below-any, all-below, below-all, listed-length, listed-at}
-use Rattle.meaning.proofs.Marks.{listed-each, marked-below}
-use Rattle.meaning.proofs.Rounds.{marks-are-reach, never-used-up}
-use Rattle.meaning.proofs.Reaching.{reach-below}
-use Rattle.meaning.proofs.Bits.{bit-word, word-below}
+use Rattle.meaning.proofs.laws.Answered.{refuse-given, refuse-passes, giving-given, giving-passes}
+use Rattle.meaning.proofs.rulefile.Accepted.{accepted-rule, accepted-is-rule}
+use Rattle.meaning.proofs.laws.Truths.{implied, implies}
+use Rattle.meaning.proofs.laws.Bools.{no-below-any, all-below, below-all, listed-length, listed-at}
+use Rattle.meaning.proofs.skipbook.Marks.{listed-each, marked-below}
+use Rattle.meaning.proofs.skipbook.Rounds.{marks-are-reach, never-used-up}
+use Rattle.meaning.proofs.skipbook.Reaching.{reach-below}
+use Rattle.meaning.proofs.skipbook.Bits.{bit-word, word-below}
 
 -- ---- the words of the book
 

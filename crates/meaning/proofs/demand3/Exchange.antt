@@ -18,11 +18,11 @@ use Rattle.meaning.specs.FullReading.{Run, innermost, outer, runAfter, f
 use Rattle.meaning.specs.Hedges.{nestedOn, nestedFrom, knownEvents, wellNested}
 use Rattle.meaning.specs.Skipping.{held, settled, passed, endsLevel, settledTurn, skipTurn, skipEvent, skipStep}
 use Rattle.meaning.specs.Calls.{Judged, endOf}
-use Rattle.meaning.proofs.Answered.{if-true, refuse-passes, refuse-given, giving-passes, and-true}
-use Rattle.meaning.proofs.FeedLaws.{feed-none, feed-taken, feed-append, feed-split}
-use Rattle.meaning.proofs.Truths.{true-is-not-false}
-use Rattle.meaning.proofs.Following.{Follows, bothGive, refuse-each, if-each, look-each, giving-each, follows-so, feed-each}
-use Rattle.meaning.proofs.Runs.{freshRun, skipFrom, skipRun, endOfRun}
+use Rattle.meaning.proofs.laws.Answered.{if-true, refuse-passes, refuse-given, giving-passes, and-true}
+use Rattle.meaning.proofs.laws.FeedLaws.{feed-none, feed-taken, feed-append, feed-split}
+use Rattle.meaning.proofs.laws.Truths.{true-is-not-false}
+use Rattle.meaning.proofs.laws.Following.{Follows, bothGive, refuse-each, if-each, look-each, giving-each, follows-so, feed-each}
+use Rattle.meaning.proofs.demand3.Runs.{freshRun, skipFrom, skipRun, endOfRun}
 
 -- ---- the same but for places
 

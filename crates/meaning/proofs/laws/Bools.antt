@@ -8,8 +8,8 @@ use mathlib.Core.Logic.{_⊎_, inl, inr}
 use native.Mathlib.Omega.{arith}
 use lib.ListN.{length, getD}
 use Rattle.meaning.specs.SkipBook.{allBelow, anyBelow, listed}
-use Rattle.meaning.proofs.Answered.{and-true, both-true}
-pub use Rattle.meaning.proofs.Truths.{true-is-not-false, not-true-false, and-false-right, or-true, or-true-first, or-true-left, or-true-right, both-false}
+use Rattle.meaning.proofs.laws.Answered.{and-true, both-true}
+pub use Rattle.meaning.proofs.laws.Truths.{true-is-not-false, not-true-false, and-false-right, or-true, or-true-first, or-true-left, or-true-right, both-false}
 
 -- ---- the numbers below n
 

@@ -16,8 +16,8 @@ use Rattle.meaning.specs.Answers.{Answer, given, refused, _giving_, _≤
 use Rattle.meaning.specs.RuleFile.{Rule, Move, noMove, to, letterMove, treeMove, treeStartMove}
 use Rattle.meaning.specs.FullReading.{eventOf, mostEvents, looked, Table, letterTable, startTable, treeTable, noMoveNumber, Turn, stays, stores, ends, look, opened, fullTurn, knownEvent, fullEvent, Run, innermost, outer, runAfter, fullStep, Went, feedBy}
 use Rattle.meaning.specs.Hedges.{Hedge, ε, _·_, ⟨_⟩·_, eventsOf, known, Goes, byNothing, byLetter, byTree, Led, toState, missingAt, later, byMove, fromThere, evaluate, height}
-use Rattle.meaning.proofs.Answered.{refuse-passes, and-true}
-use Rattle.meaning.proofs.FeedLaws.{feed-none, feed-taken, feed-refused}
+use Rattle.meaning.proofs.laws.Answered.{refuse-passes, and-true}
+use Rattle.meaning.proofs.laws.FeedLaws.{feed-none, feed-taken, feed-refused}
 
 -- ---- what led to a state
 

@@ -12,7 +12,7 @@ use Rattle.meaning.specs.Answers.{_<?_, _=?_, if_then_else_}
 use Rattle.meaning.specs.RuleFile.{Rule, IsRule, isMove, isState, none, noMove, to, asMove}
 use Rattle.meaning.specs.RuleFile.{letterMove, treeMove, treeStartMove}
 use Rattle.meaning.specs.SkipBook.{canEndTree, Reach, itself, byLetter, byTree, Still, Hold, noneOr, inStill, inHold, IsBook}
-use Rattle.meaning.proofs.Truths.{or-true-first, true-is-not-false}
+use Rattle.meaning.proofs.laws.Truths.{or-true-first, true-is-not-false}
 
 -- ---- where a move leads
 

@@ -12,9 +12,9 @@ use Rattle.meaning.specs.Answers.{given, refused}
 use Rattle.meaning.specs.RuleFile.{Rule, checkRule}
 use Rattle.meaning.specs.FullReading.{feedBy}
 use Rattle.meaning.specs.Calls.{Stored, storeStep, notReading, readingCheck, fedFrom, feedCall, topOf, endOf, finishCall}
-use Rattle.meaning.proofs.Accepted.{accepted-is-rule}
-use Rattle.meaning.proofs.StillReading.{fed-reading}
-use Rattle.meaning.proofs.Answered.{refuse-given, refuse-passes, giving-given, giving-passes, giving-stops}
+use Rattle.meaning.proofs.rulefile.Accepted.{accepted-is-rule}
+use Rattle.meaning.proofs.stores.StillReading.{fed-reading}
+use Rattle.meaning.proofs.laws.Answered.{refuse-given, refuse-passes, giving-given, giving-passes, giving-stops}
 
 pub record Checked (file book : List ℕ) (r : Reading) (store : List Level) (R : Rule) : Type 0 where
   pub accepted : checkRule file ≡ given R

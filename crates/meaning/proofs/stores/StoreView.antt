@@ -17,9 +17,9 @@ use Rattle.meaning.specs.RuleFile.{Rule}
 use Rattle.meaning.specs.FullReading.{Event, opens, closes, letter, eventOf, Turn, Run, Went, looked, opened, fullTurn, blank, innermost, outer, runAfter, feedBy}
 use Rattle.meaning.specs.Skipping.{held, settled, passed, endsLevel, settledTurn, skipTurn, skipEvent, skipStep}
 use Rattle.meaning.specs.Calls.{Stored, topOf, storedAfter, storeStep}
-use Rattle.meaning.proofs.Answered.{if-false, refuse-stops, giving-given}
-use Rattle.meaning.proofs.FeedKeeps.{feed-keeps, feed-keeps-while, feed-viewed}
-use Rattle.meaning.proofs.Turns.{Turned, passes, endsHeld, takesLetter, storesOpen, endsLooked, turned}
+use Rattle.meaning.proofs.laws.Answered.{if-false, refuse-stops, giving-given}
+use Rattle.meaning.proofs.laws.FeedKeeps.{feed-keeps, feed-keeps-while, feed-viewed}
+use Rattle.meaning.proofs.stores.Turns.{Turned, passes, endsHeld, takesLetter, storesOpen, endsLooked, turned}
 
 -- ---- the records below the depth, the innermost first
 

@@ -13,8 +13,8 @@ use Rattle.meaning.specs.RuleFile.{Rule}
 use Rattle.meaning.specs.FullReading.{Event, eventOf, fullTurn, fullEvent, Run, innermost, fullStep, feedBy}
 use Rattle.meaning.specs.SkipBook.{bit, inStill, inHold}
 use Rattle.meaning.specs.Skipping.{held, settled, skipTurn, skipEvent, skipStep}
-use Rattle.meaning.proofs.Answered.{if-false}
-use Rattle.meaning.proofs.FeedLaws.{feed-cong}
+use Rattle.meaning.proofs.laws.Answered.{if-false}
+use Rattle.meaning.proofs.laws.FeedLaws.{feed-cong}
 
 -- every word of the book is zero
 abbrev pub Zeros : List ℕ → Type 0

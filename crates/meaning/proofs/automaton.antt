@@ -1,0 +1,3 @@
+-- Full reading and the paper's automaton on hedges.
+pub mod Automaton
+pub mod Nested

@@ -1,0 +1,7 @@
+-- Laws of the words in which the definitions are written, and of feeding over any step.
+pub mod Answered
+pub mod Bools
+pub mod Truths
+pub mod FeedLaws
+pub mod FeedKeeps
+pub mod Following

@@ -1,0 +1,2 @@
+-- The check program's input.
+pub mod Front

@@ -1,0 +1,6 @@
+-- The skip book: Reach, the rounds that find it, and the book that is made.
+pub mod Reaching
+pub mod Marks
+pub mod Rounds
+pub mod Bits
+pub mod BookMade

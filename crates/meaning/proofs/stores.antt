@@ -1,0 +1,9 @@
+-- The calls over the lent level store.
+pub mod Turns
+pub mod StoreView
+pub mod StillReading
+pub mod ReadingCheck
+pub mod SplitFeeds
+pub mod OneAnswer
+pub mod Whole
+pub mod ZeroBook
