@@ -1,11 +1,11 @@
 -- The check program (document 01, the end of "Two small rules"): what its input is, and what its two lines say. The input is the
 -- four records of a rule, then one record of kind 5 whose body is the events, two bytes each, little-endian, and nothing after.
-use Prim.Native.Nat.{ℕ, _+_, _*_, _%_}
+use Prim.Native.Nat.{ℕ, zero, suc, _+_, _*_, _/_, _%_}
 use mathlib.Core.Bool.{not}
-use mathlib.Core.List.{List, [], _∷_}
+use mathlib.Core.List.{List, [], _∷_, _++_}
 use lib.ListN.{length, take, replicate}
 use Rattle.meaning.specs.Answers.{Answer, given, refused, refuse_at_when_otherwise_, _giving_, _<?_, _=?_, if_then_else_}
-use Rattle.meaning.specs.RuleFile.{Rule, headerLength, number2, number4, part, checkRule}
+use Rattle.meaning.specs.RuleFile.{Rule, headerLength, number2, number4, part, ruleOf, checkRule}
 use Rattle.meaning.specs.FullReading.{Went, freshReading, blank}
 use Rattle.meaning.specs.SkipBook.{bookOf}
 use Rattle.meaning.specs.Calls.{Judged, Stored, feedCall, finishFed, largestCeiling}
@@ -90,17 +90,73 @@ lineFrom fed j =
       looks = fed .last .reading .looks;
     })
 
+-- what feeding the events comes to, from a fresh reading over levels that hold nothing, under the largest ceiling
+unfoldable pub programFed : List ℕ → List ℕ → List ℕ → Went Stored
+programFed file book events =
+    feedCall file book largestCeiling (freshReading (ruleOf file)) (replicate programLevels blank) events
+
 -- reading the events of an input with a book
-unfoldable pub lineWith : Input → Rule → List ℕ → Answer Line
-lineWith input R book =
-    let fed : Went Stored =
-    feedCall (input .file) book largestCeiling (freshReading R) (replicate programLevels blank) (input .events)
-    in
+unfoldable pub lineWith : Input → List ℕ → Answer Line
+lineWith input book =
+    let fed : Went Stored = programFed (input .file) book (input .events) in
     finishFed (input .file) book fed giving lineFrom fed
 
 -- `skip` is the reading with the rule's own book, `full` the one with a book of zeros, which is full reading
-unfoldable pub skipLine : Input → Rule → Answer Line
-skipLine input R = lineWith input R (bookOf R)
+unfoldable pub skipLine : Input → Answer Line
+skipLine input = lineWith input (bookOf (ruleOf (input .file)))
 
-unfoldable pub fullLine : Input → Rule → Answer Line
-fullLine input R = lineWith input R (replicate (R .states + 1) 0)
+unfoldable pub fullLine : Input → Answer Line
+fullLine input = lineWith input (replicate (ruleOf (input .file) .states + 1) 0)
+
+-- ---- the bytes of the lines, in ASCII
+
+-- the last digits of a number, so many at the most and none in front that is a zero
+unfoldable pub digitsIn : ℕ → ℕ → List ℕ
+digitsIn zero n = []
+digitsIn (suc most) n = (if n / 10 =? 0 then [] else digitsIn most (n / 10)) ++ ((0x30 + n % 10) ∷ [])
+
+-- a number below 2^64 in decimal digits, of which it has 20 at the most
+unfoldable pub decimal : ℕ → List ℕ
+decimal n = digitsIn 20 n
+
+-- a space and a number
+unfoldable pub spaced : ℕ → List ℕ
+spaced n = 0x20 ∷ decimal n
+
+-- the words skip, full and rule
+unfoldable pub skipWord : List ℕ
+skipWord = 0x73 ∷ 0x6B ∷ 0x69 ∷ 0x70 ∷ []
+
+unfoldable pub fullWord : List ℕ
+fullWord = 0x66 ∷ 0x75 ∷ 0x6C ∷ 0x6C ∷ []
+
+unfoldable pub ruleWord : List ℕ
+ruleWord = 0x72 ∷ 0x75 ∷ 0x6C ∷ 0x65 ∷ []
+
+-- a space and the word refused
+unfoldable pub refusedWord : List ℕ
+refusedWord = 0x20 ∷ 0x72 ∷ 0x65 ∷ 0x66 ∷ 0x75 ∷ 0x73 ∷ 0x65 ∷ 0x64 ∷ []
+
+-- a space and the word of a class: off-schema, reject or accept
+unfoldable pub classWord : ℕ → List ℕ
+classWord zero = 0x20 ∷ 0x6F ∷ 0x66 ∷ 0x66 ∷ 0x2D ∷ 0x73 ∷ 0x63 ∷ 0x68 ∷ 0x65 ∷ 0x6D ∷ 0x61 ∷ []
+classWord (suc zero) = 0x20 ∷ 0x72 ∷ 0x65 ∷ 0x6A ∷ 0x65 ∷ 0x63 ∷ 0x74 ∷ []
+classWord (suc (suc c)) = 0x20 ∷ 0x61 ∷ 0x63 ∷ 0x63 ∷ 0x65 ∷ 0x70 ∷ 0x74 ∷ []
+
+-- the end of a line
+unfoldable pub lineEnd : List ℕ
+lineEnd = 0x0A ∷ []
+
+-- which reading, verdict, end state, events and looks; or which reading, `refused`, number and place
+unfoldable pub lineBytes : List ℕ → Answer Line → List ℕ
+lineBytes name (given l) =
+    name ++ (classWord (l .class) ++ (spaced (l .state) ++ (spaced (l .events) ++ (spaced (l .looks) ++ lineEnd))))
+lineBytes name (refused number place) = name ++ (refusedWord ++ (spaced number ++ (spaced place ++ lineEnd)))
+
+-- What the program prints for an input: a line for each reading, or the one line of a bad rule or record.
+unfoldable pub printedFor : Answer Input → List ℕ
+printedFor (given input) = lineBytes skipWord (skipLine input) ++ lineBytes fullWord (fullLine input)
+printedFor (refused number place) = lineBytes ruleWord (refused number place)
+
+unfoldable pub printed : List ℕ → List ℕ
+printed input = printedFor (inputCheck input)

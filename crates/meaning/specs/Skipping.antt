@@ -1,6 +1,7 @@
 -- Skipping (document 01, "Skipping"): on a settled level nothing is looked up until the close that ends it. Any book is
 -- obeyed as it stands.
-use Prim.Native.Nat.{ℕ, _+_, _-_}
+use Prim.Native.Nat.{ℕ, _+_, _-_, _<_}
+use mathlib.Core.Path.{_≡_}
 use mathlib.Core.Bool.{Bool, _&&_, _||_}
 use mathlib.Core.List.{List}
 use Rattle.meaning.specs.declared.Reading.{Reading}
@@ -56,3 +57,10 @@ skipEvent R book room ceiling r top e = knownEvent R r e (skipTurn R book room c
 unfoldable pub skipStep : Rule → List ℕ → ℕ → ℕ → Run → ℕ → Answer Run
 skipStep R book room ceiling m e =
     skipEvent R book room ceiling (m .reading) (innermost (m .levels)) e giving λ turn. given (runAfter (m .levels) turn)
+
+-- ---- the bits for n and above are ignored
+
+-- two books that say the same of every state of the rule, whatever their other bits and words are
+pub record SameSets (R : Rule) (book book′ : List ℕ) : Type 0 where
+  pub stillSame : (q : ℕ) → q < R .states → inStill book q ≡ inStill book′ q
+  pub holdSame : (u q : ℕ) → u < R .states → q < R .states → inHold book u q ≡ inHold book′ u q
