@@ -29,10 +29,10 @@ known k ε = true
 known k (a · h) = a <? k && known k h
 known k (⟨ h ⟩· g) = known k h && known k g
 
--- The automaton's steps (4.1.1): q goes to q′ by a hedge.
+-- The automaton's steps (4.1.1): q goes to q′ by a hedge over the rule's letters.
 pub data Goes (R : Rule) : ℕ → Hedge → ℕ → Type 0 where
   byNothing : {q : ℕ} → Goes R q ε q
-  byLetter : {q q′ q″ a : ℕ} {h : Hedge} → letterMove R q a ≡ to q′ → Goes R q′ h q″ → Goes R q (a · h) q″
+  byLetter : {q q′ q″ a : ℕ} {h : Hedge} → a < R .letters → letterMove R q a ≡ to q′ → Goes R q′ h q″ → Goes R q (a · h) q″
   byTree : {q q′ q″ p p′ : ℕ} {h g : Hedge} → treeStartMove R ≡ to p → Goes R p h p′ → treeMove R q p′ ≡ to q′
       → Goes R q′ g q″ → Goes R q (⟨ h ⟩· g) q″
 

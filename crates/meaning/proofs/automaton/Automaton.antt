@@ -10,13 +10,13 @@ use Prim.Native.Nat.{ℕ, suc, _+_, _-_, _≤_, _<_}
 use native.Mathlib.Omega.{arith}
 use native.Mathlib.Nat.{add-zero, add-assoc}
 use lib.ListN.{length, length-append}
-use borrow.Author.Tests.{ltb-true, leb-true, leb-false, lt-leb, ne-eqb}
+use borrow.Author.Tests.{ltb-true, lt-ltb, leb-true, leb-false, lt-leb, ne-eqb}
 use Rattle.meaning.specs.declared.Level.{Level}
 use Rattle.meaning.specs.Answers.{Answer, given, refused, _giving_, _≤?_, if_then_else_}
 use Rattle.meaning.specs.RuleFile.{Rule, Move, noMove, to, letterMove, treeMove, treeStartMove}
 use Rattle.meaning.specs.FullReading.{eventOf, mostEvents, looked, Table, letterTable, startTable, treeTable, noMoveNumber, Turn, stays, stores, ends, look, opened, fullTurn, knownEvent, fullEvent, Run, innermost, outer, runAfter, fullStep, Went, feedBy}
 use Rattle.meaning.specs.Hedges.{Hedge, ε, _·_, ⟨_⟩·_, eventsOf, known, Goes, byNothing, byLetter, byTree, Led, toState, missingAt, later, byMove, fromThere, evaluate, height}
-use Rattle.meaning.proofs.laws.Answered.{refuse-passes, and-true}
+use Rattle.meaning.proofs.laws.Answered.{refuse-passes, and-true, both-true}
 use Rattle.meaning.proofs.laws.FeedLaws.{feed-none, feed-taken, feed-refused}
 
 -- ---- what led to a state
@@ -38,30 +38,42 @@ unfolding fromThere
 fromThere-to (toState p) next e = (p, refl, e)
 fromThere-to (missingAt table i) next e = let z : _≡_ {A = ℕ} 0 1 = cc in absurd (omega arith)
 
-pub evaluates-goes : (R : Rule) (q : ℕ) (h : Hedge) {q′ : ℕ} → evaluate R q h ≡ toState q′ → Goes R q h q′
-unfolding evaluate
-evaluates-goes R q ε {q′} e = let same : q′ ≡ q = cc in rw same byNothing
-evaluates-goes R q (a · h) e =
+pub evaluates-goes : (R : Rule) (q : ℕ) (h : Hedge) {q′ : ℕ} → known (R .letters) h ≡ true → evaluate R q h ≡ toState q′
+    → Goes R q h q′
+unfolding evaluate known
+evaluates-goes R q ε {q′} letters e = let same : q′ ≡ q = cc in rw same byNothing
+evaluates-goes R q (a · h) letters e =
+    let each = and-true _ _ letters in
     let m = byMove-to letterTable _ 0 _ e in
-    byLetter (m .1) (evaluates-goes R (m .0) h (later-to 1 _ (m .2)))
-evaluates-goes R q (⟨ h ⟩· g) e =
+    byLetter (ltb-true _ _ (each .0)) (m .1) (evaluates-goes R (m .0) h (each .1) (later-to 1 _ (m .2)))
+evaluates-goes R q (⟨ h ⟩· g) letters e =
+    let each = and-true _ _ letters in
     let start = byMove-to startTable _ 0 _ e in
     let inner = fromThere-to _ _ (start .2) in
     let close = byMove-to treeTable _ _ _ (inner .2) in
     byTree
     (start .1)
-    (evaluates-goes R (start .0) h (later-to 1 _ (inner .1)))
+    (evaluates-goes R (start .0) h (each .0) (later-to 1 _ (inner .1)))
     (close .1)
-    (evaluates-goes R (close .0) g (later-to _ _ (close .2)))
+    (evaluates-goes R (close .0) g (each .1) (later-to _ _ (close .2)))
 
 pub goes-evaluates : {R : Rule} {q q′ : ℕ} {h : Hedge} → Goes R q h q′ → evaluate R q h ≡ toState q′
 unfolding evaluate byMove later fromThere
 goes-evaluates byNothing = refl
-goes-evaluates (byLetter m g) = rw (m, byMove, goes-evaluates g, later)
+goes-evaluates (byLetter known m g) = rw (m, byMove, goes-evaluates g, later)
 goes-evaluates (byTree s g m k) = rw (s, byMove, goes-evaluates g, later, fromThere, m, byMove, goes-evaluates k, later)
 
-pub evaluate-goes : (R : Rule) (q : ℕ) (h : Hedge) (q′ : ℕ) → (evaluate R q h ≡ toState q′) ↔ Goes R q h q′
-evaluate-goes R q h q′ = (evaluates-goes R q h, goes-evaluates)
+-- the automaton goes by hedges over the rule's letters alone
+pub goes-known : {R : Rule} {q q′ : ℕ} {h : Hedge} → Goes R q h q′ → known (R .letters) h ≡ true
+unfolding known
+goes-known byNothing = refl
+goes-known {R} (byLetter {a} letter m g) = both-true (lt-ltb a (R .letters) letter) (goes-known g)
+goes-known (byTree s g m k) = both-true (goes-known g) (goes-known k)
+
+-- a hedge over the rule's letters leads to a state exactly if the automaton goes there
+pub evaluate-goes : (R : Rule) (q : ℕ) (h : Hedge) (q′ : ℕ) → known (R .letters) h ≡ true
+    → (evaluate R q h ≡ toState q′) ↔ Goes R q h q′
+evaluate-goes R q h q′ letters = (evaluates-goes R q h letters, goes-evaluates)
 
 -- so a hedge leads to one state only
 pub goes-one : {R : Rule} {q p p′ : ℕ} {h : Hedge} → Goes R q h p → Goes R q h p′ → p ≡ p′
@@ -294,7 +306,7 @@ module _ (R : Rule) (room ceiling : ℕ) (m : Run) (h : Hedge) (enough : Suffice
   pub full-follows-goes : (q′ : ℕ)
       → Comes (feedBy (fullStep R room ceiling) m (eventsOf h)) q′ (m .levels) ↔ Goes R (m .reading .state) h q′
   full-follows-goes q′ = (
-    λ comes. evaluates-goes R (m .reading .state) h (come-to followed comes),
+    λ comes. evaluates-goes R (m .reading .state) h (enough .letters) (come-to followed comes),
     λ goes.
         let there = full-follows (goes-evaluates goes) in
         record {
