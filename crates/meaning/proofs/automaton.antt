@@ -1,3 +1,4 @@
 -- Full reading and the paper's automaton on hedges.
 pub mod Automaton
 pub mod Nested
+pub mod Streaming

@@ -2,6 +2,7 @@
 pub mod Answered
 pub mod Bools
 pub mod Truths
+pub mod Events
 pub mod FeedLaws
 pub mod FeedKeeps
 pub mod Following

@@ -1,12 +1,12 @@
 -- The 2024 paper's own view (document 004, sections 2, 4.1 and 9.1): hedges, their events, and the steps of a stepwise hedge
 -- automaton. Hedges are sequences of letters and trees; the paper takes them up to the laws of joining, so a hedge here is
 -- nothing, or a letter and then a hedge, or a tree and then a hedge.
-use Prim.Native.Nat.{ℕ, zero, suc, _+_, _<_}
+use Prim.Native.Nat.{ℕ, zero, suc, _+_, _-_, _<_, max}
 use mathlib.Core.Path.{_≡_}
 use mathlib.Core.Bool.{Bool, true, false, _&&_}
 use mathlib.Core.List.{List, [], _∷_, _++_}
 use lib.ListN.{length}
-use Rattle.meaning.specs.Answers.{_≤?_, _<?_, _=?_, if_then_else_}
+use Rattle.meaning.specs.Answers.{_<?_, _=?_}
 use Rattle.meaning.specs.RuleFile.{Rule, Move, noMove, to, letterMove, treeMove, treeStartMove}
 use Rattle.meaning.specs.FullReading.{Event, opens, closes, letter, eventOf, Table, letterTable, startTable, treeTable}
 
@@ -70,7 +70,7 @@ evaluate R q (⟨ h ⟩· g) =
 unfoldable pub height : Hedge → ℕ
 height ε = 0
 height (a · h) = height h
-height (⟨ h ⟩· g) = if height g ≤? suc (height h) then suc (height h) else height g
+height (⟨ h ⟩· g) = max (suc (height h)) (height g)
 
 -- ---- well-nested runs of known events
 
@@ -93,3 +93,16 @@ knownEvents k (e ∷ es) = e <? k + 2 && knownEvents k es
 
 unfoldable pub wellNested : ℕ → List ℕ → Bool
 wellNested k es = nestedFrom 0 es && knownEvents k es
+
+-- ---- the height of a stream
+
+-- an event with so many trees open, and the most that are open at once after it
+unfoldable pub deepestOn : ℕ → Event → (ℕ → ℕ) → ℕ
+deepestOn depth opens rest = rest (suc depth)
+deepestOn depth closes rest = max depth (rest (depth - 1))
+deepestOn depth (letter a) rest = rest depth
+
+-- the most trees that are open at once in a stream, with so many open before it
+unfoldable pub deepest : ℕ → List ℕ → ℕ
+deepest depth [] = depth
+deepest depth (e ∷ es) = deepestOn depth (eventOf e) (λ next. deepest next es)

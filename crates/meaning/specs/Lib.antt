@@ -3,6 +3,7 @@ pub mod Answers
 pub mod RuleFile
 pub mod FullReading
 pub mod Hedges
+pub mod StreamingMachine
 pub mod SkipBook
 pub mod Skipping
 pub mod PassedOver

@@ -6,16 +6,17 @@ use mathlib.Core.Path.{_≡_, refl, sym, ap, _∙_}
 use mathlib.Core.Logic.{_↔_}
 use mathlib.Core.Bool.{Bool, true, false}
 use mathlib.Core.List.{List, [], _∷_, _++_, append-assoc, append-nil}
-use Prim.Native.Nat.{ℕ, suc, _+_, _-_, _≤_, _<_}
+use Prim.Native.Nat.{ℕ, zero, suc, _+_, _-_, _≤_, _<_, max}
 use native.Mathlib.Omega.{arith}
-use native.Mathlib.Nat.{add-zero, add-assoc}
+use native.Mathlib.Nat.{add-zero, add-assoc, le-max-left, le-max-right}
 use lib.ListN.{length, length-append}
 use borrow.Author.Tests.{ltb-true, lt-ltb, leb-true, leb-false, lt-leb, ne-eqb}
 use Rattle.meaning.specs.declared.Level.{Level}
 use Rattle.meaning.specs.Answers.{Answer, given, refused, _giving_, _≤?_, if_then_else_}
 use Rattle.meaning.specs.RuleFile.{Rule, Move, noMove, to, letterMove, treeMove, treeStartMove}
 use Rattle.meaning.specs.FullReading.{eventOf, mostEvents, looked, Table, letterTable, startTable, treeTable, noMoveNumber, Turn, stays, stores, ends, look, opened, fullTurn, knownEvent, fullEvent, Run, innermost, outer, runAfter, fullStep, Went, feedBy}
-use Rattle.meaning.specs.Hedges.{Hedge, ε, _·_, ⟨_⟩·_, eventsOf, known, Goes, byNothing, byLetter, byTree, Led, toState, missingAt, later, byMove, fromThere, evaluate, height}
+use Rattle.meaning.specs.Hedges.{Hedge, ε, _·_, ⟨_⟩·_, eventsOf, known, Goes, byNothing, byLetter, byTree, Led, toState, missingAt, later, byMove, fromThere, evaluate, height, deepestOn, deepest}
+use Rattle.meaning.specs.StreamingMachine.{Suffices, Comes}
 use Rattle.meaning.proofs.laws.Answered.{refuse-passes, and-true, both-true}
 use Rattle.meaning.proofs.laws.FeedLaws.{feed-none, feed-taken, feed-refused}
 
@@ -82,10 +83,10 @@ goes-one g k = cc (goes-evaluates g, goes-evaluates k)
 -- ---- one event of full reading, where the limits let it look
 
 -- an event is one look: where there is a move the turn is made, and otherwise the event is refused at its place
-record OneLook (step : Run → ℕ → Answer Run) (m : Run) (e : ℕ) (table : Table) (x : Move) (next : ℕ → Turn) : Type 0 where
-  by-it : step m e ≡ (look table (m .reading .taken) x next giving λ turn. given (runAfter (m .levels) turn))
+pub record OneLook (step : Run → ℕ → Answer Run) (m : Run) (e : ℕ) (table : Table) (x : Move) (next : ℕ → Turn) : Type 0 where
+  pub by-it : step m e ≡ (look table (m .reading .taken) x next giving λ turn. given (runAfter (m .levels) turn))
 
-look-to : {step : Run → ℕ → Answer Run} {m : Run} {e : ℕ} {table : Table} {q : ℕ} {next : ℕ → Turn}
+pub look-to : {step : Run → ℕ → Answer Run} {m : Run} {e : ℕ} {table : Table} {q : ℕ} {next : ℕ → Turn}
     → OneLook step m e table (to q) next → step m e ≡ given (runAfter (m .levels) (next q))
 unfolding look _giving_
 look-to one = one .by-it
@@ -107,19 +108,19 @@ module _ (R : Rule) (room ceiling : ℕ) (m : Run) (limit : m .reading .taken < 
         (refuse-passes 16 _ _ (lt-leb _ _ limit) ∙ (refuse-passes 10 _ _ (lt-leb _ _ letter) ∙ turn));
   }
 
-  letter-look : (a : ℕ) → a < R .letters
+  pub letter-look : (a : ℕ) → a < R .letters
       → OneLook (fullStep R room ceiling) m (suc (suc a)) letterTable (letterMove R (m .reading .state) a)
       (λ q. stays (looked (m .reading) q (m .reading .depth)))
   unfolding fullTurn eventOf
   letter-look a letter = known-turn (suc (suc a)) (omega arith) (refuse-passes 9 _ _ (lt-leb _ _ free))
 
-  open-look : m .reading .depth < room
+  pub open-look : m .reading .depth < room
       → OneLook (fullStep R room ceiling) m 0 startTable (treeStartMove R)
       (λ q. stores (opened (m .reading)) (looked (m .reading) q (m .reading .depth + 1)))
   unfolding fullTurn eventOf
   open-look depth = known-turn 0 (omega arith) (refuse-passes 8 _ _ (lt-leb _ _ depth) ∙ refuse-passes 9 _ _ (lt-leb _ _ free))
 
-  close-look : 0 < m .reading .depth
+  pub close-look : 0 < m .reading .depth
       → OneLook (fullStep R room ceiling) m 1 treeTable (treeMove R (innermost (m .levels) .above) (m .reading .state))
       (λ q. ends (looked (m .reading) q (m .reading .depth - 1)))
   unfolding fullTurn eventOf
@@ -187,15 +188,9 @@ module _ {step : Run → ℕ → Answer Run} {m : Run} {n : ℕ} {rest : List �
 
 -- ---- by induction on the hedge
 
--- the greater of two numbers, as `height` writes it
-greater : (x y : ℕ) (b : Bool) → (y ≤? x) ≡ b → (x ≤ (if b then x else y)) × (y ≤ (if b then x else y))
-unfolding if_then_else_
-greater x y true e = let h : y ≤ x = leb-true y x e in (omega arith, h)
-greater x y false e = let h : x < y = leb-false y x e in (omega arith, omega arith)
-
 height-of-tree : (h g : Hedge) → (suc (height h) ≤ height (⟨ h ⟩· g)) × (height g ≤ height (⟨ h ⟩· g))
 unfolding height
-height-of-tree h g = greater (suc (height h)) (height g) _ refl
+height-of-tree h g = (le-max-left (suc (height h)) (height g), le-max-right (suc (height h)) (height g))
 
 -- the run inside a tree that opened, with its inner state
 abbrev inTree : Run → ℕ → Run
@@ -246,14 +241,6 @@ module _ (R : Rule) (room ceiling : ℕ) where
 
 -- ---- full reading of a hedge's events
 
--- the letters of the hedge are the rule's, and the limits suffice for it: the level store, the ceiling of looks and the limit
--- of events
-pub record Suffices (R : Rule) (room ceiling : ℕ) (m : Run) (h : Hedge) : Type 0 where
-  pub letters : known (R .letters) h ≡ true
-  pub levels : m .reading .depth + height h ≤ room
-  pub looks : m .reading .looks + length (eventsOf h) ≤ ceiling
-  pub taken : m .reading .taken + length (eventsOf h) ≤ mostEvents
-
 follows-to : {step : Run → ℕ → Answer Run} {m : Run} {n : ℕ} {fed : Went Run} {led : Led} {q : ℕ}
     → Follows step m n [] fed led → led ≡ toState q → fed ≡ record { last = ahead m q n; ended = given tt }
 follows-to {step} {m} {n} {q} (arrives {q = q₁} e) same =
@@ -266,19 +253,40 @@ follows-missing : {step : Run → ℕ → Answer Run} {m : Run} {n : ℕ} {fed :
 follows-missing (arrives e) same = let z : _≡_ {A = ℕ} 0 1 = cc in absurd (omega arith)
 follows-missing (stops e) same = cc
 
--- feeding took all events, and came to a state with these levels
-pub record Comes (fed : Went Run) (q : ℕ) (levels : List Level) : Type 0 where
-  pub allTaken : fed .ended ≡ given tt
-  pub inState : fed .last .reading .state ≡ q
-  pub withLevels : fed .last .levels ≡ levels
-
 come-to : {step : Run → ℕ → Answer Run} {m : Run} {n : ℕ} {fed : Went Run} {led : Led} {q : ℕ}
     → Follows step m n [] fed led → Comes fed q (m .levels) → led ≡ toState q
 come-to {step} {m} {n} (arrives {q = q₁} e) comes =
     ap toState (sym (ap (λ w. w .last .reading .state) (e ∙ feed-none step (ahead m q₁ n))) ∙ comes .inState)
 come-to (stops e) comes = let z : _≡_ {A = ℕ} 0 1 = cc in absurd (omega arith)
 
-module _ (R : Rule) (room ceiling : ℕ) (m : Run) (h : Hedge) (enough : Suffices R room ceiling m h) where
+-- no fewer are open at once than were open before
+pub deepest-least : (d : ℕ) (es : List ℕ) → d ≤ deepest d es
+unfolding deepest deepestOn eventOf
+deepest-least d [] = omega arith
+deepest-least d (zero ∷ es) = omega (arith, deepest-least (suc d) es)
+deepest-least d (suc zero ∷ es) = le-max-left d (deepest (d - 1) es)
+deepest-least d (suc (suc a) ∷ es) = deepest-least d es
+
+-- the most trees open at once in the events of a hedge, and in what follows it
+pub deepest-hedge : (d : ℕ) (h : Hedge) (rest : List ℕ) → deepest d (eventsOf h ++ rest) ≡ max (d + height h) (deepest d rest)
+unfolding eventsOf height deepest deepestOn eventOf
+deepest-hedge d ε rest = let h : d ≤ deepest d rest = deepest-least d rest in omega arith
+deepest-hedge d (a · h) rest = deepest-hedge d h rest
+deepest-hedge d (⟨ h ⟩· g) rest =
+    ap (deepest (suc d)) (append-assoc (eventsOf h) (1 ∷ eventsOf g) rest)
+    ∙ (deepest-hedge (suc d) h (1 ∷ (eventsOf g ++ rest))
+    ∙ (let down : suc d - 1 ≡ d = omega arith in
+    let back = ap (λ n. deepest n (eventsOf g ++ rest)) down in
+    omega (arith, deepest-hedge d g rest, back)))
+
+pub deepest-whole : (d : ℕ) (h : Hedge) → deepest d (eventsOf h) ≡ d + height h
+unfolding deepest
+deepest-whole d h =
+    let both : deepest d (eventsOf h) ≡ max (d + height h) d = rw append-nil at (deepest-hedge d h []) in
+    omega arith
+
+module _ (R : Rule) (room ceiling : ℕ) (m : Run) (h : Hedge) (letters : known (R .letters) h ≡ true)
+    (enough : Suffices room ceiling m (eventsOf h)) where
   followed : Follows
       (fullStep R room ceiling)
       m
@@ -287,7 +295,7 @@ module _ (R : Rule) (room ceiling : ℕ) (m : Run) (h : Hedge) (enough : Suffice
       (feedBy (fullStep R room ceiling) m (eventsOf h))
       (evaluate R (m .reading .state) h)
   followed =
-      rw append-nil at (follow R room ceiling h m [] (enough .letters) (enough .levels) (enough .looks) (enough .taken))
+      rw append-nil at (follow R room ceiling h m [] letters (omega (arith, enough .levels, deepest-whole (m .reading .depth) h)) (enough .looks) (enough .taken))
 
   -- where the hedge leads to a state, all its events are taken, each as one look, and reading is in that state with the levels
   -- as they were
@@ -306,7 +314,7 @@ module _ (R : Rule) (room ceiling : ℕ) (m : Run) (h : Hedge) (enough : Suffice
   pub full-follows-goes : (q′ : ℕ)
       → Comes (feedBy (fullStep R room ceiling) m (eventsOf h)) q′ (m .levels) ↔ Goes R (m .reading .state) h q′
   full-follows-goes q′ = (
-    λ comes. evaluates-goes R (m .reading .state) h (enough .letters) (come-to followed comes),
+    λ comes. evaluates-goes R (m .reading .state) h letters (come-to followed comes),
     λ goes.
         let there = full-follows (goes-evaluates goes) in
         record {

@@ -23,6 +23,7 @@ use Rattle.meaning.specs.Calls.{Judged, endOf}
 use Rattle.meaning.proofs.laws.Answered.{if-true, if-false, both-true, refuse-given, refuse-passes}
 use Rattle.meaning.proofs.laws.Truths.{true-is-not-false, by-cases, or-true-first, or-true, or-true-left, or-true-right}
 use Rattle.meaning.proofs.laws.Truths.{and-false-right}
+use Rattle.meaning.proofs.laws.Events.{known-letter}
 use Rattle.meaning.proofs.skipbook.Reaching.{letter-below, tree-below, start-below, initial-below}
 use Rattle.meaning.proofs.skipbook.Reaching.{letter-ends-tree, tree-ends-tree, start-ends-tree}
 use Rattle.meaning.proofs.skipbook.Reaching.{reach-itself, reach-letter, reach-tree, still-stays, hold-stays, hold-returns}
@@ -213,15 +214,6 @@ unfolding outer
 length-outer [] = refl
 length-outer (l ∷ σ) = omega arith
 
--- a letter that is not refused is one of the rule's
-known-letter : (k e : ℕ) → (k + 2 ≤? e) ≡ false → (a : ℕ) → eventOf e ≡ letter a → a < k
-unfolding eventOf
-known-letter k zero known a is = let z : _≡_ {A = ℕ} 0 1 = cc in absurd (omega arith)
-known-letter k (suc zero) known a is = let z : _≡_ {A = ℕ} 0 1 = cc in absurd (omega arith)
-known-letter k (suc (suc b)) known a is =
-    let same : b ≡ a = cc in
-    omega (arith, leb-false (k + 2) (suc (suc b)) known)
-
 -- The two on one level: skipping counts no level inside.
 module _ {R : Rule} {book : List ℕ} (rule : IsRule R) (own : IsBook R book) (room ceiling : ℕ)
     {r r′ : Reading} {σ : List Level} (along : Alongside R book r [] r′ σ) where
@@ -351,7 +343,7 @@ module _ {R : Rule} {book : List ℕ} (rule : IsRule R) (own : IsBook R book) (r
       refuse-each 16 _ _ _ _ (λ free. rw (along .counts .taken) at free)
       λ free. refuse-each 10 _ _ _ _ (λ known. known)
       λ known. if-second _
-      (λ settles. settled-turn σ along (eventOf e) (known-letter (R .letters) e known) (rw same at settles))
+      (λ settles. settled-turn σ along (eventOf e) (known-letter (R .letters) e (leb-false _ _ known)) (rw same at settles))
       (λ moves. unsettled-turn σ along (eventOf e) (rw same at moves))
 
 -- Every event that full reading takes is taken by skipping and keeps the relation. It is a look of skipping exactly if it is

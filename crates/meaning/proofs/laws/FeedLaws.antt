@@ -85,6 +85,18 @@ module _ {A : Type 0} (step : A → ℕ → Answer A) where
   feed-split a (e ∷ xs) ys h =
       split-on ys (λ b. feedBy step b xs) (λ b. feedBy step b (xs ++ ys)) (λ b. feed-split b xs ys) a (step a e) h
 
+  -- where all are taken, the first event is taken, and then the rest
+  first-on : (rest : A → Went A) (a : A) (x : Answer A) → goOn a x rest .ended ≡ given tt
+      → (b : A) × (x ≡ given b) × (goOn a x rest ≡ rest b)
+  unfolding goOn
+  first-on rest a (given b) h = (b, refl, refl)
+  first-on rest a (refused number place) h = let z : _≡_ {A = ℕ} 0 1 = cc in absurd (omega arith)
+
+  pub feed-first : (a : A) (e : ℕ) (es : List ℕ) → feedBy step a (e ∷ es) .ended ≡ given tt
+      → (b : A) × (step a e ≡ given b) × (feedBy step a (e ∷ es) ≡ feedBy step b es)
+  unfolding feedBy
+  feed-first a e es h = first-on (λ b. feedBy step b es) a (step a e) h
+
 -- ---- two steps that agree
 
 pub feed-cong : {A : Type 0} (step other : A → ℕ → Answer A) → ((a : A) (e : ℕ) → step a e ≡ other a e)

@@ -15,6 +15,7 @@ use Rattle.meaning.specs.SkipBook.{inStill}
 use Rattle.meaning.specs.Skipping.{held, settled, passed, endsLevel, settledTurn, skipTurn, skipEvent}
 use Rattle.meaning.proofs.laws.Answered.{or-false}
 use Rattle.meaning.proofs.laws.Bools.{true-is-not-false}
+use Rattle.meaning.proofs.laws.Events.{known-letter}
 
 -- ---- what is given has a property
 
@@ -102,19 +103,13 @@ module _ (R : Rule) (book : List ℕ) (room ceiling : ℕ) (r : Reading) (top : 
       gives-if (0 <? r .skip) _ _ (λ inside. gave (passes closes (r .skip - 1) is (omega arith)))
       (λ outside. ends-turned (omega (arith, ltb-false 0 (r .skip) outside)))
 
-  known-letter : (e : ℕ) → e < R .letters + 2 → (a : ℕ) → eventOf e ≡ letter a → a < R .letters
-  unfolding eventOf
-  known-letter zero h a q = let z : _≡_ {A = ℕ} 0 1 = cc in absurd (omega arith)
-  known-letter (suc zero) h a q = let z : _≡_ {A = ℕ} 0 1 = cc in absurd (omega arith)
-  known-letter (suc (suc b)) h a q = let same : b ≡ a = cc in omega arith
-
   event-turned : (e : ℕ) → Gives (Turned R book room r top (eventOf e)) (skipEvent R book room ceiling r top e)
   unfolding skipEvent knownEvent skipTurn
   event-turned e =
       gives-refuse 16 (r .taken) (mostEvents ≤? r .taken) _ (λ more.
       gives-refuse 10 (r .taken) (R .letters + 2 ≤? e) _ (λ known.
       gives-if (settled book r top) _ _ (settled-turned (eventOf e))
-      (full-turned (eventOf e) (known-letter e (leb-false _ _ known)))))
+      (full-turned (eventOf e) (known-letter (R .letters) e (leb-false _ _ known)))))
 
   pub turned : (e : ℕ) {turn : Turn} → skipEvent R book room ceiling r top e ≡ given turn
       → Turned R book room r top (eventOf e) turn
