@@ -8,3 +8,4 @@ pub mod OneAnswer
 pub mod Whole
 pub mod ZeroBook
 pub mod BookBits
+pub mod Took
