@@ -2,6 +2,7 @@
 -- The rule check, the writer and the maker stand with their own headings. Every call here takes the rule as the bytes of
 -- its file.
 use Prim.Native.Nat.{ℕ, _+_, _-_}
+use mathlib.Core.Path.{_≡_}
 use mathlib.Core.Bool.{Bool, not, _&&_, _||_}
 use mathlib.Core.List.{List}
 use lib.ListN.{length, getD, set}
@@ -16,7 +17,7 @@ use Rattle.meaning.specs.declared.Feeding.{Feeding}
 use Rattle.meaning.specs.declared.Feeding.the-variants as feeding
 use Rattle.meaning.specs.Answers.{Answer, given, refused, refuse_at_when_otherwise_, _giving_, _<?_, if_then_else_}
 use Rattle.meaning.specs.RuleFile.{Rule, isState, classOf, checkRule, ruleOf}
-use Rattle.meaning.specs.FullReading.{Turn, stays, stores, ends, blank, freshReading, Went, feedBy}
+use Rattle.meaning.specs.FullReading.{Turn, stays, stores, ends, Run, innermost, blank, freshReading, Went, feedBy}
 use Rattle.meaning.specs.SkipBook.{allBelow, makeBook, bookAfter}
 use Rattle.meaning.specs.Skipping.{settled, skipEvent}
 
@@ -113,8 +114,20 @@ endOf R r top =
     refuse 12 at openPlace r top when 0 <? r .depth + r .skip otherwise
     given (record { class = classOf R (r .state); state = r .state })
 
+-- how a run ends when there is no further event
+abbrev pub endOfRun : Rule → Run → Answer Judged
+endOfRun R m = endOf R (m .reading) (innermost (m .levels))
+
 unfoldable pub finishCall : List ℕ → List ℕ → Reading → List Level → Answer Judged
 finishCall file book r store = readingCheck file book r store giving λ R. endOf R r (topOf r store)
+
+-- ---- a reading by the calls
+
+-- A reading from the first event on that ends with a verdict: feeding takes all events, and finish then answers it.
+pub record ReadsTo (file book : List ℕ) (store : List Level) (ceiling : ℕ) (events : List ℕ) (R : Rule) (j : Judged) : Type 0 where
+  pub takesAll : feedCall file book ceiling (freshReading R) store events .ended ≡ given tt
+  pub verdict : finishCall file book (feedCall file book ceiling (freshReading R) store events .last .reading)
+      (feedCall file book ceiling (freshReading R) store events .last .store) ≡ given j
 
 -- ---- the whole-document call
 

@@ -135,3 +135,13 @@ goOn a (refused number place) rest = record { last = a; ended = refused number p
 unfoldable pub feedBy : {A : Type 0} → (A → ℕ → Answer A) → A → List ℕ → Went A
 feedBy step a [] = record { last = a; ended = given tt }
 feedBy step a (e ∷ es) = goOn a (step a e) (λ b. feedBy step b es)
+
+-- ---- full reading from the first event on
+
+-- before the first event
+abbrev pub freshRun : Rule → Run
+freshRun R = record { reading = freshReading R; levels = [] }
+
+-- some events read in full, with so much room for levels and under a ceiling
+abbrev pub fullRun : Rule → ℕ → ℕ → List ℕ → Went Run
+fullRun R room ceiling es = feedBy (fullStep R room ceiling) (freshRun R) es

@@ -8,5 +8,6 @@ pub mod SkipBook
 pub mod Skipping
 pub mod PassedOver
 pub mod Calls
+pub mod Demands
 pub mod Cases
 pub mod CheckProgram

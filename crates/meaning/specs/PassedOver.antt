@@ -1,12 +1,15 @@
 -- Passed over (document 01, "Skipping"), said of a full reading: which events the rule's book makes needless.
 use Prim.Native.Nat.{ℕ, _+_}
-use mathlib.Core.Bool.{Bool, false, not, _&&_, _||_}
+use mathlib.Core.Path.{_≡_}
+use mathlib.Core.Bool.{Bool, true, false, not, _&&_, _||_}
 use mathlib.Core.List.{List, [], _∷_}
 use Rattle.meaning.specs.declared.Level.{Level}
 use Rattle.meaning.specs.Answers.{Answer, given, refused, if_then_else_}
 use Rattle.meaning.specs.RuleFile.{Rule}
-use Rattle.meaning.specs.FullReading.{Event, opens, closes, letter, eventOf, Run, fullStep}
+use Rattle.meaning.specs.FullReading.{Event, opens, closes, letter, eventOf, Run, innermost, fullStep}
+use Rattle.meaning.specs.Hedges.{wellNested}
 use Rattle.meaning.specs.SkipBook.{inStill, inHold}
+use Rattle.meaning.specs.Skipping.{settled, skipRun}
 
 -- the level with that state inside those levels is in hold of the state above it; the top has no state above it
 unfoldable pub levelHeld : List ℕ → ℕ → List Level → Bool
@@ -45,3 +48,11 @@ notPassedOver R book room ceiling m [] = 0
 notPassedOver R book room ceiling m (e ∷ es) =
     (if passedOver book m e then 0 else 1)
     + thenCount (fullStep R room ceiling m e) (λ next. notPassedOver R book room ceiling next es)
+
+-- A passed-over part, for the exchange in demand 3: a well-nested run (it may be empty) that skipping takes at one settled level.
+-- It stands after the events before it, all of which skipping has taken.
+pub record PassedOverPart (R : Rule) (book : List ℕ) (room ceiling : ℕ) (before part : List ℕ) : Type 0 where
+  pub reached : skipRun R book room ceiling before .ended ≡ given tt
+  pub onSettled : settled book (skipRun R book room ceiling before .last .reading)
+      (innermost (skipRun R book room ceiling before .last .levels)) ≡ true
+  pub nested : wellNested (R .letters) part ≡ true

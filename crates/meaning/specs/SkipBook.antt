@@ -7,7 +7,7 @@ use mathlib.Core.List.{List, [], _∷_, _++_}
 use lib.ListN.{length, getD, drop}
 use lib.Count.{ones}
 use Rattle.meaning.specs.Answers.{Answer, given, refused, refuse_at_when_otherwise_, _giving_, _<?_, _=?_}
-use Rattle.meaning.specs.RuleFile.{Rule, Move, noMove, to, letterMove, treeMove, checkRule}
+use Rattle.meaning.specs.RuleFile.{Rule, Move, noMove, to, letterMove, treeMove, checkRule, ruleOf}
 
 -- ---- Reach
 
@@ -150,3 +150,7 @@ makeBook file book =
 unfoldable pub bookAfter : Answer ℕ → Rule → List ℕ → List ℕ
 bookAfter (given count) R book = bookOf R ++ drop (R .states + 1) book
 bookAfter (refused number place) R book = book
+
+-- the book that a call of the maker leaves
+abbrev pub madeBook : List ℕ → List ℕ → List ℕ
+madeBook file book = bookAfter (makeBook file book) (ruleOf file) book

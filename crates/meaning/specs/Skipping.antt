@@ -4,11 +4,12 @@ use Prim.Native.Nat.{ℕ, _+_, _-_, _<_}
 use mathlib.Core.Path.{_≡_}
 use mathlib.Core.Bool.{Bool, _&&_, _||_}
 use mathlib.Core.List.{List}
+use lib.ListN.{getD}
 use Rattle.meaning.specs.declared.Reading.{Reading}
 use Rattle.meaning.specs.declared.Level.{Level}
 use Rattle.meaning.specs.Answers.{Answer, given, _giving_, _<?_, if_then_else_}
 use Rattle.meaning.specs.RuleFile.{Rule}
-use Rattle.meaning.specs.FullReading.{Event, opens, closes, letter, eventOf, Turn, stays, ends, fullTurn, knownEvent, Run, innermost, runAfter}
+use Rattle.meaning.specs.FullReading.{Event, opens, closes, letter, eventOf, Turn, stays, ends, fullTurn, knownEvent, Run, innermost, runAfter, Went, feedBy, freshRun}
 use Rattle.meaning.specs.SkipBook.{inStill, inHold}
 
 -- ---- settled levels
@@ -58,7 +59,18 @@ unfoldable pub skipStep : Rule → List ℕ → ℕ → ℕ → Run → ℕ → 
 skipStep R book room ceiling m e =
     skipEvent R book room ceiling (m .reading) (innermost (m .levels)) e giving λ turn. given (runAfter (m .levels) turn)
 
--- ---- the bits for n and above are ignored
+-- some events read with skipping by a book, from a run on and from the first event on
+abbrev pub skipFrom : Rule → List ℕ → ℕ → ℕ → Run → List ℕ → Went Run
+skipFrom R book room ceiling m es = feedBy (skipStep R book room ceiling) m es
+
+abbrev pub skipRun : Rule → List ℕ → ℕ → ℕ → List ℕ → Went Run
+skipRun R book room ceiling es = skipFrom R book room ceiling (freshRun R) es
+
+-- ---- a book of zeros, and the bits for n and above
+
+-- every word of the book is zero
+abbrev pub Zeros : List ℕ → Type 0
+Zeros book = (i : ℕ) → getD book i 0 ≡ 0
 
 -- two books that say the same of every state of the rule, whatever their other bits and words are
 pub record SameSets (R : Rule) (book book′ : List ℕ) : Type 0 where

@@ -8,7 +8,7 @@ use lib.ListN.{length}
 use Rattle.meaning.specs.Answers.{Answer, given, refused, _giving_}
 use Rattle.meaning.specs.RuleFile.{checkRule, ruleOf}
 use Rattle.meaning.specs.FullReading.{Went, freshReading, feedBy}
-use Rattle.meaning.specs.SkipBook.{makeBook, bookAfter}
+use Rattle.meaning.specs.SkipBook.{makeBook, bookAfter, madeBook}
 use Rattle.meaning.specs.Calls.{Stored, refusalSays, feedingSays, endSays, storeStep, topOf, endOf, finishFed, largestCeiling, readWith, wholeDocument}
 use Rattle.meaning.specs.declared.End.{End}
 use Rattle.meaning.specs.declared.Reading.{Reading}
@@ -18,7 +18,7 @@ use Rattle.meaning.specs.declared.Refusal.{Refusal}
 use Rattle.meaning.proofs.rulefile.Accepted.{accepted-is-rule}
 use Rattle.meaning.proofs.laws.Answered.{giving-stops}
 use Rattle.meaning.proofs.stores.StillReading.{reading-is, fed-reading}
-use Rattle.meaning.proofs.stores.Whole.{fresh-reading, madeBook, made-says, made-length, whole-refused, whole-made, whole-feeds, whole-finishes}
+use Rattle.meaning.proofs.stores.Whole.{fresh-reading, made-says, made-length, whole-refused, whole-made, whole-feeds, whole-finishes}
 use Rattle.rule.specs.declared.Rule.{Rule}
 use Rattle.rule.specs.declared.Checked.{Checked}
 use Rattle.rule.specs.declared.Checked.the-variants as checked

@@ -167,6 +167,7 @@ module _ (R : Rule) (room ceiling : ℕ) (r : Reading) (top : Level) where
 record Went-by (R : Rule) (room ceiling : ℕ) (r : Reading) (ls : List Level) (es : List ℕ) (m : Run) : Type 0 where
   streams : Streams R (r .state) (aboves ls) es (m .reading .state) (aboves (m .levels))
   stored : m .reading .depth ≡ length (m .levels)
+  skip : m .reading .skip ≡ r .skip
   levels : r .depth ≤ room → deepest (r .depth) es ≤ room
   looks : r .looks ≤ ceiling → r .looks + length es ≤ ceiling
   taken : r .taken ≤ mostEvents → r .taken + length es ≤ mostEvents
@@ -194,6 +195,7 @@ module _ (R : Rule) (room ceiling : ℕ) where
       record {
         streams = readsLetter known leads (w .streams);
         stored = w .stored;
+        skip = w .skip;
         levels = w .levels;
         looks = λ h. omega (arith, w .looks (omega arith));
         taken = λ h. omega (arith, w .taken (omega arith));
@@ -204,6 +206,7 @@ module _ (R : Rule) (room ceiling : ℕ) where
       record {
         streams = readsOpen leads (w .streams);
         stored = w .stored;
+        skip = w .skip;
         levels = λ h. omega (arith, w .levels (omega arith), deeper);
         looks = λ h. omega (arith, w .looks (omega arith));
         taken = λ h. omega (arith, w .taken (omega arith));
@@ -214,6 +217,7 @@ module _ (R : Rule) (room ceiling : ℕ) where
       record {
         streams = readsClose leads (w .streams);
         stored = w .stored;
+        skip = w .skip;
         levels = λ h. omega (arith, w .levels (omega arith));
         looks = λ h. omega (arith, w .looks (omega arith));
         taken = λ h. omega (arith, w .taken (omega arith));
@@ -227,6 +231,7 @@ module _ (R : Rule) (room ceiling : ℕ) where
       (record {
         streams = readsNothing;
         stored = depth;
+        skip = refl;
         levels = λ h. h;
         looks = λ h. omega arith;
         taken = λ h. omega arith;
@@ -324,3 +329,8 @@ module _ (R : Rule) (room ceiling : ℕ) (m : Run) (stands : Stands room ceiling
         withStack = refl;
         stored = full-went R room ceiling (m .reading) (m .levels) es (stands .stored) all .stored;
       }
+
+  -- with the skip depth as it was
+  pub full-skips-nothing : feedBy (fullStep R room ceiling) m es .ended ≡ given tt
+      → feedBy (fullStep R room ceiling) m es .last .reading .skip ≡ m .reading .skip
+  full-skips-nothing all = full-went R room ceiling (m .reading) (m .levels) es (stands .stored) all .skip

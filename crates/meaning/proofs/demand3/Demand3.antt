@@ -12,14 +12,14 @@ use Rattle.meaning.specs.declared.Reading.{Reading}
 use Rattle.meaning.specs.declared.Level.{Level}
 use Rattle.meaning.specs.Answers.{Answer, given, refused, _≤?_, _<?_, if_then_else_}
 use Rattle.meaning.specs.RuleFile.{Rule, IsRule, to, letterMove, treeMove, treeStartMove}
-use Rattle.meaning.specs.FullReading.{Event, opens, closes, letter, eventOf, letterTable, startTable, treeTable}
+use Rattle.meaning.specs.FullReading.{Event, opens, closes, letter, eventOf, letterTable, startTable, treeTable, freshRun, fullRun}
 use Rattle.meaning.specs.FullReading.{Turn, ends, looked, opened, fullTurn, knownEvent, fullEvent, fullStep}
 use Rattle.meaning.specs.FullReading.{Run, innermost, outer, runAfter, freshReading}
 use Rattle.meaning.specs.SkipBook.{canEndTree, Reach, inStill, IsBook}
-use Rattle.meaning.specs.Skipping.{held, settled, passed, endsLevel, settledTurn, skipTurn, skipEvent, skipStep}
+use Rattle.meaning.specs.Skipping.{held, settled, passed, endsLevel, settledTurn, skipTurn, skipEvent, skipStep, skipRun}
 use Rattle.meaning.specs.PassedOver.{levelHeld, levelSettled, outsideSettled, closesStill, passedOver}
 use Rattle.meaning.specs.PassedOver.{thenCount, notPassedOver}
-use Rattle.meaning.specs.Calls.{Judged, endOf}
+use Rattle.meaning.specs.Calls.{Judged, endOf, endOfRun}
 use Rattle.meaning.proofs.laws.Answered.{if-true, if-false, both-true, refuse-given, refuse-passes}
 use Rattle.meaning.proofs.laws.Truths.{true-is-not-false, by-cases, or-true-first, or-true, or-true-left, or-true-right}
 use Rattle.meaning.proofs.laws.Truths.{and-false-right}
@@ -29,7 +29,6 @@ use Rattle.meaning.proofs.skipbook.Reaching.{letter-ends-tree, tree-end
 use Rattle.meaning.proofs.skipbook.Reaching.{reach-itself, reach-letter, reach-tree, still-stays, hold-stays, hold-returns}
 use Rattle.meaning.proofs.laws.Following.{Follows, bothGive, refuse-each, refuse-first, if-second, look-first, look-each}
 use Rattle.meaning.proofs.laws.Following.{giving-each, follows-so, where-first-gives, feed-each}
-use Rattle.meaning.proofs.demand3.Runs.{freshRun, fullRun, skipRun, endOfRun}
 
 -- ---- what relates the two readings
 

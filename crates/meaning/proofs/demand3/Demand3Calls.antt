@@ -10,18 +10,18 @@ use Rattle.meaning.specs.declared.Reading.{Reading}
 use Rattle.meaning.specs.declared.Level.{Level}
 use Rattle.meaning.specs.Answers.{given, if_then_else_, _<?_}
 use Rattle.meaning.specs.RuleFile.{Rule, checkRule, ruleOf}
-use Rattle.meaning.specs.FullReading.{Went, Run, innermost, freshReading, blank, feedBy}
-use Rattle.meaning.specs.SkipBook.{IsBook, makeBook, bookAfter}
-use Rattle.meaning.specs.PassedOver.{notPassedOver}
-use Rattle.meaning.specs.Calls.{Judged, Stored, storeStep, topOf, openPlace, endOf, feedCall, finishCall, readingCheck}
+use Rattle.meaning.specs.FullReading.{Went, Run, innermost, freshReading, blank, feedBy, freshRun, fullRun}
+use Rattle.meaning.specs.SkipBook.{IsBook, makeBook, bookAfter, madeBook}
+use Rattle.meaning.specs.Calls.{Judged, Stored, storeStep, topOf, openPlace, endOf, feedCall, finishCall, readingCheck, endOfRun, ReadsTo}
+use Rattle.meaning.specs.Skipping.{skipRun, Zeros}
+use Rattle.meaning.specs.Demands.{EndsAsFull}
 use Rattle.meaning.proofs.rulefile.Accepted.{accepted-is-rule}
 use Rattle.meaning.proofs.skipbook.BookMade.{made-is-book}
 use Rattle.meaning.proofs.skipbook.Rounds.{never-used-up}
-use Rattle.meaning.proofs.demand3.Runs.{freshRun, fullRun, skipRun, endOfRun}
 use Rattle.meaning.proofs.stores.ReadingCheck.{feed-checked, finish-checked, fed-checked}
 use Rattle.meaning.proofs.stores.StoreView.{levelsOf, OneView, store-is-levels}
-use Rattle.meaning.proofs.stores.Whole.{madeBook, made-says, made-length, fresh-checked}
-use Rattle.meaning.proofs.stores.ZeroBook.{Zeros, zero-book}
+use Rattle.meaning.proofs.stores.Whole.{made-says, made-length, fresh-checked}
+use Rattle.meaning.proofs.stores.ZeroBook.{zero-book}
 use Rattle.meaning.proofs.demand3.Demand3.{demand-3}
 
 -- the book that a maker left is the rule's own
@@ -79,12 +79,6 @@ module _ (file book : List ℕ) (store : List Level) (ceiling : ℕ) (events : L
 
 -- ---- the theorem
 
--- a reading by the calls that ends with a verdict: all events taken, and what finish then answers
-pub record ReadsTo (file book : List ℕ) (store : List Level) (ceiling : ℕ) (events : List ℕ) (R : Rule) (j : Judged) : Type 0 where
-  pub takesAll : feedCall file book ceiling (freshReading R) store events .ended ≡ given tt
-  pub verdict : finishCall file book (feedCall file book ceiling (freshReading R) store events .last .reading)
-      (feedCall file book ceiling (freshReading R) store events .last .store) ≡ given j
-
 -- full reading is the reading by the calls with a book of zeros
 pub full-by-calls : (file book : List ℕ) (store : List Level) (ceiling : ℕ) (events : List ℕ) {R : Rule} {j : Judged}
     → checkRule file ≡ given R → R .states + 1 ≤ length book → Zeros book → ReadsTo file book store ceiling events R j
@@ -98,20 +92,13 @@ full-by-calls file book store ceiling events {R} accepted long empty reads =
       sym (ap (λ (w : Went Run). endOfRun R (w .last)) same) ∙ (sym end ∙ reads .verdict),
     )
 
--- Demand 3. If full reading ends with a verdict under some level store and ceiling, then skipping with the book that the maker
--- wrote, under the same store and ceiling, ends with that verdict and that state, and its looks are the events that full
--- reading does not mark as passed over, never more than the events.
-pub record Demand3 (file lent : List ℕ) (store : List Level) (ceiling : ℕ) (events : List ℕ) (j : Judged) : Type 0 where
-  pub reads : ReadsTo file (madeBook file lent) store ceiling events (ruleOf file) j
-  pub looks : feedCall file (madeBook file lent) ceiling (freshReading (ruleOf file)) store events .last .reading .looks
-      ≡ notPassedOver (ruleOf file) (madeBook file lent) (length store) ceiling (freshRun (ruleOf file)) events
-  pub few : notPassedOver (ruleOf file) (madeBook file lent) (length store) ceiling (freshRun (ruleOf file)) events ≤ length events
-
+-- Demand 3: wherever full reading ends with a verdict under some level store and ceiling, skipping with the book that the maker
+-- wrote ends so under the same.
 pub demand-3-calls : (file lent : List ℕ) (store : List Level) (ceiling : ℕ) (events : List ℕ) {count : ℕ} {j : Judged}
     → makeBook file lent ≡ given count
     → fullRun (ruleOf file) (length store) ceiling events .ended ≡ given tt
     → endOfRun (ruleOf file) (fullRun (ruleOf file) (length store) ceiling events .last) ≡ given j
-    → Demand3 file lent store ceiling events j
+    → EndsAsFull file lent store ceiling events j
 demand-3-calls file lent store ceiling events made all judged =
     let book : List ℕ = madeBook file lent in
     let m = made-says file lent made in
@@ -130,7 +117,7 @@ demand-3-calls file lent store ceiling events made all judged =
 -- the same, with full reading made by the calls with a book of zeros
 pub demand-3-by-calls : (file lent zeros : List ℕ) (store : List Level) (ceiling : ℕ) (events : List ℕ) {count : ℕ} {j : Judged}
     → makeBook file lent ≡ given count → ruleOf file .states + 1 ≤ length zeros → Zeros zeros
-    → ReadsTo file zeros store ceiling events (ruleOf file) j → Demand3 file lent store ceiling events j
+    → ReadsTo file zeros store ceiling events (ruleOf file) j → EndsAsFull file lent store ceiling events j
 demand-3-by-calls file lent zeros store ceiling events made long empty reads =
     let full = full-by-calls file zeros store ceiling events (made-says file lent made .accepted) long empty reads in
     demand-3-calls file lent store ceiling events made (full .0) (full .1)

@@ -13,17 +13,17 @@ use Rattle.meaning.specs.declared.Reading.{Reading}
 use Rattle.meaning.specs.declared.Level.{Level}
 use Rattle.meaning.specs.Answers.{Answer, given, refused, if_then_else_}
 use Rattle.meaning.specs.RuleFile.{Rule, IsRule, ruleOf}
-use Rattle.meaning.specs.FullReading.{Run, Went, goOn, feedBy, freshReading, fullStep}
-use Rattle.meaning.specs.SkipBook.{IsBook, makeBook}
+use Rattle.meaning.specs.FullReading.{Run, Went, goOn, feedBy, freshReading, fullStep, freshRun, fullRun}
+use Rattle.meaning.specs.SkipBook.{IsBook, makeBook, madeBook}
 use Rattle.meaning.specs.PassedOver.{passedOver, thenCount, notPassedOver}
-use Rattle.meaning.specs.Calls.{Judged, feedCall}
+use Rattle.meaning.specs.Demands.{SoFar}
+use Rattle.meaning.specs.Calls.{Judged, feedCall, endOfRun, ReadsTo}
+use Rattle.meaning.specs.Skipping.{Zeros, skipRun}
 use Rattle.meaning.proofs.laws.FeedLaws.{feed-split}
 use Rattle.meaning.proofs.rulefile.Accepted.{accepted-is-rule}
-use Rattle.meaning.proofs.stores.Whole.{madeBook, made-says, made-length}
-use Rattle.meaning.proofs.stores.ZeroBook.{Zeros}
-use Rattle.meaning.proofs.demand3.Runs.{freshRun, fullRun, skipRun, endOfRun}
+use Rattle.meaning.proofs.stores.Whole.{made-says, made-length}
 use Rattle.meaning.proofs.demand3.Demand3.{Agrees, skipping-agrees}
-use Rattle.meaning.proofs.demand3.Demand3Calls.{made-own, fed-is-run, ReadsTo, full-by-calls}
+use Rattle.meaning.proofs.demand3.Demand3Calls.{made-own, fed-is-run, full-by-calls}
 
 -- ---- a first part
 
@@ -94,13 +94,6 @@ module _ {R : Rule} {book : List ℕ} (rule : IsRule R) (own : IsBook R book) (r
       (not-passed-over-next R book room ceiling (freshRun R) es i h (part-taken (fullStep R room ceiling) (freshRun R) es i all))
 
 -- ---- of the calls
-
--- skipping by the calls, with the book that the maker wrote, has taken these events, and its looks are those of them that full
--- reading does not mark as passed over
-pub record SoFar (file lent : List ℕ) (store : List Level) (ceiling : ℕ) (part : List ℕ) : Type 0 where
-  pub takesAll : feedCall file (madeBook file lent) ceiling (freshReading (ruleOf file)) store part .ended ≡ given tt
-  pub looks : feedCall file (madeBook file lent) ceiling (freshReading (ruleOf file)) store part .last .reading .looks
-      ≡ notPassedOver (ruleOf file) (madeBook file lent) (length store) ceiling (freshRun (ruleOf file)) part
 
 module _ (file lent : List ℕ) (store : List Level) (ceiling : ℕ) (events : List ℕ) {count : ℕ} (made : makeBook file lent ≡ given count)
     (all : fullRun (ruleOf file) (length store) ceiling events .ended ≡ given tt) where

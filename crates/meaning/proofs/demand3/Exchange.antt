@@ -12,17 +12,17 @@ use Rattle.meaning.specs.declared.Reading.{Reading}
 use Rattle.meaning.specs.declared.Level.{Level}
 use Rattle.meaning.specs.Answers.{given, _≤?_, _<?_}
 use Rattle.meaning.specs.RuleFile.{Rule}
-use Rattle.meaning.specs.FullReading.{Event, opens, closes, letter, eventOf, mostEvents, letterTable, startTable, treeTable}
+use Rattle.meaning.specs.FullReading.{Event, opens, closes, letter, eventOf, mostEvents, letterTable, startTable, treeTable, freshRun}
 use Rattle.meaning.specs.FullReading.{Turn, stays, looked, opened, fullTurn, knownEvent}
 use Rattle.meaning.specs.FullReading.{Run, innermost, outer, runAfter, freshReading, Went, feedBy}
 use Rattle.meaning.specs.Hedges.{nestedOn, nestedFrom, knownEvents, wellNested}
-use Rattle.meaning.specs.Skipping.{held, settled, passed, endsLevel, settledTurn, skipTurn, skipEvent, skipStep}
-use Rattle.meaning.specs.Calls.{Judged, endOf}
+use Rattle.meaning.specs.Skipping.{held, settled, passed, endsLevel, settledTurn, skipTurn, skipEvent, skipStep, skipFrom, skipRun}
+use Rattle.meaning.specs.PassedOver.{PassedOverPart}
+use Rattle.meaning.specs.Calls.{Judged, endOf, endOfRun}
 use Rattle.meaning.proofs.laws.Answered.{if-true, refuse-passes, refuse-given, giving-passes, and-true}
 use Rattle.meaning.proofs.laws.FeedLaws.{feed-none, feed-taken, feed-append, feed-split}
 use Rattle.meaning.proofs.laws.Truths.{true-is-not-false}
 use Rattle.meaning.proofs.laws.Following.{Follows, bothGive, refuse-each, if-each, look-each, giving-each, follows-so, feed-each}
-use Rattle.meaning.proofs.demand3.Runs.{freshRun, skipFrom, skipRun, endOfRun}
 
 -- ---- the same but for places
 
@@ -324,18 +324,18 @@ pub record EndsSame (R : Rule) (book : List ℕ) (room ceiling : ℕ) (es es′ 
   pub verdict : endOfRun R (skipRun R book room ceiling es′ .last) ≡ given j
   pub looks : skipRun R book room ceiling es .last .reading .looks ≡ skipRun R book room ceiling es′ .last .reading .looks
 
--- The exchange: where skipping stands on a settled level after xs, and ends with a verdict after the well-nested part ys and
--- then zs, it does so with any other well-nested part in the place of ys.
+-- The exchange: where skipping ends with a verdict after xs, the passed-over part ys and then zs, it does so with any other
+-- well-nested run in the place of ys.
 pub exchange : (R : Rule) (book : List ℕ) (room ceiling : ℕ) (xs ys ys′ zs : List ℕ) {j : Judged}
-    → skipRun R book room ceiling xs .ended ≡ given tt
-    → (let at : Run = skipRun R book room ceiling xs .last in settled book (at .reading) (innermost (at .levels)) ≡ true)
-    → wellNested (R .letters) ys ≡ true → wellNested (R .letters) ys′ ≡ true → length (xs ++ (ys′ ++ zs)) ≤ mostEvents
+    → PassedOverPart R book room ceiling xs ys → wellNested (R .letters) ys′ ≡ true → length (xs ++ (ys′ ++ zs)) ≤ mostEvents
     → skipRun R book room ceiling (xs ++ (ys ++ zs)) .ended ≡ given tt
     → endOfRun R (skipRun R book room ceiling (xs ++ (ys ++ zs)) .last) ≡ given j
     → EndsSame R book room ceiling (xs ++ (ys ++ zs)) (xs ++ (ys′ ++ zs)) j
 unfolding freshReading
-exchange R book room ceiling xs ys ys′ zs taken settles nested nested′ limit all judged =
-    let exchanged = exchange-from R book room ceiling (freshRun R) xs ys ys′ zs taken settles nested nested′ (omega arith) all in
+exchange R book room ceiling xs ys ys′ zs part nested′ limit all judged =
+    let exchanged =
+    exchange-from R book room ceiling (freshRun R) xs ys ys′ zs (part .reached) (part .onSettled) (part .nested) nested′
+    (omega arith) all in
     record {
       takesAll = exchanged .takesAll;
       verdict = end-same R _ _ (exchanged .same) judged;

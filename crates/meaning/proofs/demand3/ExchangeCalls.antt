@@ -14,12 +14,13 @@ use Rattle.meaning.specs.RuleFile.{Rule, checkRule}
 use Rattle.meaning.specs.FullReading.{Went, innermost, blank, freshReading, mostEvents}
 use Rattle.meaning.specs.Hedges.{wellNested}
 use Rattle.meaning.specs.SkipBook.{inHold}
-use Rattle.meaning.specs.Skipping.{held, settled}
-use Rattle.meaning.specs.Calls.{Judged, Stored, topOf, feedCall, finishCall}
+use Rattle.meaning.specs.Skipping.{held, settled, skipRun}
+use Rattle.meaning.specs.PassedOver.{PassedOverPart}
+use Rattle.meaning.specs.Demands.{ReadsSame}
+use Rattle.meaning.specs.Calls.{Judged, Stored, topOf, feedCall, finishCall, endOfRun, ReadsTo}
 use Rattle.meaning.proofs.stores.StoreView.{levelsOf, OneView}
-use Rattle.meaning.proofs.demand3.Runs.{skipRun, endOfRun}
 use Rattle.meaning.proofs.demand3.Exchange.{exchange}
-use Rattle.meaning.proofs.demand3.Demand3Calls.{ReadsTo, fed-is-run, finish-is-end}
+use Rattle.meaning.proofs.demand3.Demand3Calls.{fed-is-run, finish-is-end}
 
 -- whether a level is settled is the same over the store and over its levels
 held-same : (book : List ℕ) (q depth : ℕ) (store : List Level)
@@ -36,12 +37,6 @@ settled-same : (book : List ℕ) (r : Reading) (store : List Level)
 unfolding settled held topOf
 settled-same book r store = rw (held-same book (r .state) (r .depth) store)
 
--- the other part read to the same verdict and end state, by as many looks
-pub record ReadsSame (file book : List ℕ) (store : List Level) (ceiling : ℕ) (events events′ : List ℕ) (R : Rule) (j : Judged) : Type 0 where
-  pub reads : ReadsTo file book store ceiling events′ R j
-  pub looks : feedCall file book ceiling (freshReading R) store events .last .reading .looks
-      ≡ feedCall file book ceiling (freshReading R) store events′ .last .reading .looks
-
 module _ (file book : List ℕ) (store : List Level) (ceiling : ℕ) {R : Rule}
     (accepted : checkRule file ≡ given R) (long : R .states + 1 ≤ length book) where
   abbrev fed : List ℕ → Went Stored
@@ -54,17 +49,25 @@ module _ (file book : List ℕ) (store : List Level) (ceiling : ℕ) {R : Rule}
       ≡ endOfRun R (skipRun R book (length store) ceiling events .last)
   end events = finish-is-end file book store ceiling events accepted long
 
-  pub exchange-calls : (xs ys ys′ zs : List ℕ) {j : Judged} → fed xs .ended ≡ given tt
+  -- after a feed that took all its events and left a settled level, a well-nested run is a passed-over part
+  pub part-by-calls : (xs ys : List ℕ) → fed xs .ended ≡ given tt
       → settled book (fed xs .last .reading) (topOf (fed xs .last .reading) (fed xs .last .store)) ≡ true
-      → wellNested (R .letters) ys ≡ true → wellNested (R .letters) ys′ ≡ true → length (xs ++ (ys′ ++ zs)) ≤ mostEvents
+      → wellNested (R .letters) ys ≡ true → PassedOverPart R book (length store) ceiling xs ys
+  part-by-calls xs ys taken settles nested =
+      record {
+        reached = sym (view xs .ended) ∙ taken;
+        onSettled = sym (ap₂ (λ (r : Reading) (ls : List Level). settled book r (innermost ls)) (view xs .reading) (sym (view xs .levels)))
+            ∙ (sym (settled-same book (fed xs .last .reading) (fed xs .last .store)) ∙ settles);
+        nested = nested;
+      }
+
+  pub exchange-calls : (xs ys ys′ zs : List ℕ) {j : Judged} → PassedOverPart R book (length store) ceiling xs ys
+      → wellNested (R .letters) ys′ ≡ true → length (xs ++ (ys′ ++ zs)) ≤ mostEvents
       → ReadsTo file book store ceiling (xs ++ (ys ++ zs)) R j
       → ReadsSame file book store ceiling (xs ++ (ys ++ zs)) (xs ++ (ys′ ++ zs)) R j
-  exchange-calls xs ys ys′ zs taken settles nested nested′ limit reads =
-      let onLevels = sym (ap₂ (λ (r : Reading) (ls : List Level). settled book r (innermost ls)) (view xs .reading) (sym (view xs .levels)))
-      ∙ (sym (settled-same book (fed xs .last .reading) (fed xs .last .store)) ∙ settles)
-      in
+  exchange-calls xs ys ys′ zs part nested′ limit reads =
       let same =
-      exchange R book (length store) ceiling xs ys ys′ zs (sym (view xs .ended) ∙ taken) onLevels nested nested′ limit
+      exchange R book (length store) ceiling xs ys ys′ zs part nested′ limit
       (sym (view (xs ++ (ys ++ zs)) .ended) ∙ reads .takesAll) (sym (end (xs ++ (ys ++ zs))) ∙ reads .verdict)
       in
       record {

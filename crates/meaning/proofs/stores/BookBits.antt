@@ -14,14 +14,14 @@ use Rattle.meaning.specs.Answers.{Answer, given, refused, _giving_, _<?_
 use Rattle.meaning.specs.RuleFile.{Rule, IsRule, isState, checkRule}
 use Rattle.meaning.specs.FullReading.{Event, opens, closes, letter, eventOf}
 use Rattle.meaning.specs.SkipBook.{bit, inStill, inHold}
-use Rattle.meaning.specs.Skipping.{held, settled, endsLevel, settledTurn, skipTurn, skipEvent, SameSets}
+use Rattle.meaning.specs.Skipping.{held, settled, endsLevel, settledTurn, skipTurn, skipEvent, SameSets, Zeros}
 use Rattle.meaning.specs.Calls.{Stored, topOf, storeStep, notReading, readingCheck, feedCall, finishCall}
 use Rattle.meaning.proofs.laws.Truths.{by-cases}
 use Rattle.meaning.proofs.laws.FeedKeeps.{feed-alike}
 use Rattle.meaning.proofs.rulefile.Accepted.{accepted-is-rule}
 use Rattle.meaning.proofs.stores.StillReading.{IsReading, is-reading, reading-is, above-in, still-reading}
 use Rattle.meaning.proofs.stores.ReadingCheck.{check-says, feed-checked, feed-unchecked}
-use Rattle.meaning.proofs.stores.ZeroBook.{Zeros, zero-bit, none-still}
+use Rattle.meaning.proofs.stores.ZeroBook.{zero-bit, none-still}
 
 -- ---- books with the same sets
 

@@ -12,7 +12,7 @@ use Rattle.meaning.specs.declared.Level.{Level}
 use Rattle.meaning.specs.Answers.{given, refused}
 use Rattle.meaning.specs.RuleFile.{Rule, checkRule, ruleOf}
 use Rattle.meaning.specs.FullReading.{Went, freshReading, feedBy}
-use Rattle.meaning.specs.SkipBook.{wordOf, holdMarks, bookOf, makeBook, bookAfter}
+use Rattle.meaning.specs.SkipBook.{wordOf, holdMarks, bookOf, makeBook, bookAfter, madeBook}
 use Rattle.meaning.specs.Calls.{Stored, freshCall, storeStep, topOf, endOf, readingCheck, feedCall, finishCall, finishFed, largestCeiling, readWith, wholeFrom, wholeDocument}
 use Rattle.meaning.proofs.rulefile.Accepted.{accepted-rule, accepted-is-rule}
 use Rattle.meaning.proofs.laws.Answered.{giving-given, giving-passes, giving-stops, refuse-given}
@@ -22,10 +22,7 @@ use Rattle.meaning.proofs.stores.StillReading.{IsReading, reading-is}
 
 -- ---- the calls in turn
 
--- the book after the maker, and what feeding the fresh reading with it comes to
-abbrev pub madeBook : List ℕ → List ℕ → List ℕ
-madeBook file book = bookAfter (makeBook file book) (ruleOf file) book
-
+-- what feeding the fresh reading with the book that the maker left comes to
 abbrev pub fedFresh : List ℕ → List ℕ → List Level → List ℕ → Went Stored
 fedFresh file book store events =
     feedCall file (madeBook file book) largestCeiling (freshReading (ruleOf file)) store events

@@ -12,13 +12,9 @@ use Rattle.meaning.specs.Answers.{_<?_}
 use Rattle.meaning.specs.RuleFile.{Rule}
 use Rattle.meaning.specs.FullReading.{Event, eventOf, fullTurn, fullEvent, Run, innermost, fullStep, feedBy}
 use Rattle.meaning.specs.SkipBook.{bit, inStill, inHold}
-use Rattle.meaning.specs.Skipping.{held, settled, skipTurn, skipEvent, skipStep}
+use Rattle.meaning.specs.Skipping.{held, settled, skipTurn, skipEvent, skipStep, Zeros}
 use Rattle.meaning.proofs.laws.Answered.{if-false}
 use Rattle.meaning.proofs.laws.FeedLaws.{feed-cong}
-
--- every word of the book is zero
-abbrev pub Zeros : List ℕ → Type 0
-Zeros book = (i : ℕ) → getD book i 0 ≡ 0
 
 -- so many zeros are such a book
 pub zeros : (n : ℕ) → Zeros (replicate n 0)

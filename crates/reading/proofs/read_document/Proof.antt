@@ -47,7 +47,7 @@ use Rattle.levels.proofs.Store.{looks}
 use Rattle.meaning.specs.Calls.{topOf, wholeDocument, largestCeiling}
 use Rattle.meaning.specs.RuleFile.{ruleOf}
 use Rattle.meaning.specs.declared.End.{End}
-use Rattle.meaning.proofs.stores.Whole.{madeBook}
+use Rattle.meaning.specs.SkipBook.{madeBook}
 use Rattle.rule.specs.declared.Checked.{Checked}
 use Rattle.reading.specs.Checks.{ruleIn}
 use Rattle.turning.specs.Advancing.{rest, startOf}
