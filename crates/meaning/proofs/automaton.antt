@@ -2,3 +2,4 @@
 pub mod Automaton
 pub mod Nested
 pub mod Streaming
+pub mod OfCalls

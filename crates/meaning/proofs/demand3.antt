@@ -4,3 +4,4 @@ pub mod Demand3Calls
 pub mod EveryPart
 pub mod Exchange
 pub mod ExchangeCalls
+pub mod Document

@@ -80,17 +80,31 @@ module _ (file book : List ℕ) (store : List Level) (ceiling : ℕ) (events : L
 -- ---- the theorem
 
 -- full reading is the reading by the calls with a book of zeros
-pub full-by-calls : (file book : List ℕ) (store : List Level) (ceiling : ℕ) (events : List ℕ) {R : Rule} {j : Judged}
-    → checkRule file ≡ given R → R .states + 1 ≤ length book → Zeros book → ReadsTo file book store ceiling events R j
-    → (fullRun R (length store) ceiling events .ended ≡ given tt)
-    × (endOfRun R (fullRun R (length store) ceiling events .last) ≡ given j)
-full-by-calls file book store ceiling events {R} accepted long empty reads =
-    let same = zero-book book empty R (length store) ceiling (freshRun R) events in
-    let one = fed-is-run file book store ceiling events accepted long in
-    let end = finish-is-end file book store ceiling events accepted long in (
-      sym (ap (λ (w : Went Run). w .ended) same) ∙ (sym (one .ended) ∙ reads .takesAll),
-      sym (ap (λ (w : Went Run). endOfRun R (w .last)) same) ∙ (sym end ∙ reads .verdict),
-    )
+module _ (file book : List ℕ) (store : List Level) (ceiling : ℕ) (events : List ℕ) {R : Rule}
+    (accepted : checkRule file ≡ given R) (long : R .states + 1 ≤ length book) (empty : Zeros book) where
+  abbrev inFull : Went Run
+  inFull = fullRun R (length store) ceiling events
+
+  -- the run with that book is the full one
+  is-full : run file book store ceiling events accepted long ≡ inFull
+  is-full = zero-book book empty R (length store) ceiling (freshRun R) events
+
+  ended-full : fed file book store ceiling events accepted long .ended ≡ inFull .ended
+  ended-full =
+      fed-is-run file book store ceiling events accepted long .ended ∙ ap (λ (w : Went Run). w .ended) is-full
+
+  finish-full : finishCall file book (fed file book store ceiling events accepted long .last .reading)
+      (fed file book store ceiling events accepted long .last .store) ≡ endOfRun R (inFull .last)
+  finish-full =
+      finish-is-end file book store ceiling events accepted long ∙ ap (λ (w : Went Run). endOfRun R (w .last)) is-full
+
+  pub full-by-calls : {j : Judged} → ReadsTo file book store ceiling events R j
+      → (inFull .ended ≡ given tt) × (endOfRun R (inFull .last) ≡ given j)
+  full-by-calls reads = (sym ended-full ∙ reads .takesAll, sym finish-full ∙ reads .verdict)
+
+  pub calls-by-full : {j : Judged} → inFull .ended ≡ given tt → endOfRun R (inFull .last) ≡ given j
+      → ReadsTo file book store ceiling events R j
+  calls-by-full all judged = record { takesAll = ended-full ∙ all; verdict = finish-full ∙ judged }
 
 -- Demand 3: wherever full reading ends with a verdict under some level store and ceiling, skipping with the book that the maker
 -- wrote ends so under the same.
