@@ -20,17 +20,18 @@ use Rattle.book.specs.declared.Made.the-variants as made
 use Rattle.book.specs.Says.{madeSays}
 use Rattle.meaning.proofs.stores.OneAnswer.{refusal-says}
 use Rattle.meaning.proofs.rulefile.Accepted.{accepted-rule}
+use Rattle.meaning.proofs.skipbook.BookLong.{long-passes, short-stops}
 use Rattle.meaning.proofs.laws.Answered.{refuse-stops, refuse-passes, giving-passes, giving-stops}
 
 module _ (file book : List ℕ) {R : Rule} (accepted : checkRule file ≡ given R) where
   pub book-short : length book < R .states + 1 → makeBook file book ≡ refused 6 0
   unfolding makeBook
-  book-short h = giving-passes _ accepted ∙ refuse-stops 6 0 _ (lt-ltb (length book) (R .states + 1) h)
+  book-short h = giving-passes _ accepted ∙ short-stops R book _ h
 
   module _ (room : R .states + 1 ≤ length book) where
     enough : makeBook file book ≡ (refuse 15 at 0 when roundsUsedUp R otherwise given (ones (wordOf (stillMarks R))))
     unfolding makeBook
-    enough = giving-passes _ accepted ∙ refuse-passes 6 0 _ (le-ltb (length book) (R .states + 1) room)
+    enough = giving-passes _ accepted ∙ long-passes R book _ room
 
     pub rounds-used-up : roundsUsedUp R ≡ true → makeBook file book ≡ refused 15 0
     rounds-used-up e = enough ∙ refuse-stops 15 0 _ e

@@ -28,7 +28,7 @@ use Rattle.reading.specs.Whole.{ReadIs}
 use Rattle.reading.proofs.Called.{fed-value, end-value}
 use Rattle.reading.proofs.read_document as read-document
 use Rattle.reading.proofs.read_document.Symbol.{name as #read-document}
-use Rattle.host.specs.Numbers.{Laid, listed, inFront, judgedValues, fedNumbers}
+use Rattle.host.specs.Numbers.{Laid, answerNumbers, inFront, judgedValues, fedNumbers}
 use Rattle.host.proofs.answers.lay_fed as lay-fed
 use Rattle.host.proofs.answers.lay_fed.Symbol.{name as #lay-fed}
 use Rattle.host.proofs.answers.lay_end as lay-end
@@ -45,11 +45,11 @@ module _ {M : Type 1} {𝓤 : URA M} {H : Heap 𝓤} {A : Atoms 𝓤} (W : Given
 
   pub lay-end-by : (x : End) (held : List ℕ) → Meets 𝓤 H A lay-end.signature (𝓣 .C #lay-end) (lay-end.spec 𝓤 H A at-mem run) → {b o n : ℕ} (l : MutLoan 𝓤 H A u64 b o n held) → FitsIn end-value x
       → Gives 𝓤 H A (𝓣 .C #lay-end) (l .before ∷ []) (end-value .val x ∷ sliceVal (b, o) n ∷ [])
-      (Said bool vbool (λ fitted. Laid (listed judgedValues (endSays x)) held fitted (inFront (listed judgedValues (endSays x)) held))) (λ x. vbool (x .answer)) (λ _. l .after (inFront (listed judgedValues (endSays x)) held) ∷ [])
+      (Said bool vbool (λ fitted. Laid (answerNumbers judgedValues (endSays x)) held fitted (inFront (answerNumbers judgedValues (endSays x)) held))) (λ x. vbool (x .answer)) (λ _. l .after (inFront (answerNumbers judgedValues (endSays x)) held) ∷ [])
   lay-end-by x held known {b} {o} {n} l fits =
-      replies-with W 𝓣 #lay-end (passed end-value x fits ∷ lent (as-mut 𝓤 H A u64 b o n held l) ∷ []) bool vbool bool-tells (λ fitted ws. Laid (listed judgedValues (endSays x)) held fitted (ws .1 .0)) (emp 𝓤) (id⊢ 𝓤 (emp 𝓤)) (λ fitted. Laid (listed judgedValues (endSays x)) held fitted (inFront (listed judgedValues (endSays x)) held)) (tt, (inFront (listed judgedValues (endSays x)) held, tt))
+      replies-with W 𝓣 #lay-end (passed end-value x fits ∷ lent (as-mut 𝓤 H A u64 b o n held l) ∷ []) bool vbool bool-tells (λ fitted ws. Laid (answerNumbers judgedValues (endSays x)) held fitted (ws .1 .0)) (emp 𝓤) (id⊢ 𝓤 (emp 𝓤)) (λ fitted. Laid (answerNumbers judgedValues (endSays x)) held fitted (inFront (answerNumbers judgedValues (endSays x)) held)) (tt, (inFront (answerNumbers judgedValues (endSays x)) held, tt))
       (λ z. known (((l .lifetime (z .0), tt), (l .share (z .0), tt), tt, (x, (at-list u64 (l .name (z .0)) b o held, tt)), (end-value .val x ∷ [], (sliceVal (b, o) n ∷ [], tt))), tt))
-      (λ fitted ws e. (subst (Laid (listed judgedValues (endSays x)) held fitted) (e .heldIs) e, ap (λ (zs : List ℕ). (tt, (zs, tt))) (e .heldIs)))
+      (λ fitted ws e. (subst (Laid (answerNumbers judgedValues (endSays x)) held fitted) (e .heldIs) e, ap (λ (zs : List ℕ). (tt, (zs, tt))) (e .heldIs)))
 
   pub read-document-by : (file : List ℕ) (book : List ℕ) (levels : List Level) (events : List ℕ) → Meets 𝓤 H A read-document.signature (𝓣 .C #read-document) (read-document.spec 𝓤 H A at-mem run) → {b₀ o₀ n₀ b₁ o₁ n₁ b₂ o₂ n₂ b₃ o₃ n₃ : ℕ} (l₀ : ShrLoan 𝓤 H A u8 b₀ o₀ n₀ file) (l₁ : MutLoan 𝓤 H A u64 b₁ o₁ n₁ book) (l₂ : MutLoan 𝓤 H A record-type b₂ o₂ n₂ levels) (l₃ : ShrLoan 𝓤 H A u16 b₃ o₃ n₃ events)
       → Gives 𝓤 H A (𝓣 .C #read-document) (l₀ .before ∷ l₁ .before ∷ l₂ .before ∷ l₃ .before ∷ []) (sliceVal (b₀, o₀) n₀ ∷ sliceVal (b₁, o₁) n₁ ∷ sliceVal (b₂, o₂) n₂ ∷ sliceVal (b₃, o₃) n₃ ∷ [])

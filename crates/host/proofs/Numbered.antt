@@ -10,13 +10,13 @@ use Rattle.meaning.specs.Answers.{Answer, given, refused, refuse_at_when_otherw
 use Rattle.meaning.specs.RuleFile as format
 use Rattle.meaning.specs.RuleFile.{Move, noMove, to, numbersCheck, tableCheck, recordCheck, checkRule, writeCheck}
 use Rattle.meaning.specs.FullReading.{Event, opens, closes, letter, eventOf, Turn, Table, letterTable, startTable, treeTable, noMoveNumber, look, fullTurn, knownEvent, Went, goOn, feedBy}
-use Rattle.meaning.specs.SkipBook.{makeBook}
+use Rattle.meaning.specs.SkipBook.{bookCheck, makeBook}
 use Rattle.meaning.specs.Skipping.{settledTurn, endsLevel, skipTurn, skipEvent}
 use Rattle.meaning.specs.Calls.{Stored, freshCall, storeStep, readingCheck, fedFrom, feedCall, endOf, finishCall, finishFed, readWith, wholeFrom, wholeDocument}
 use Rattle.meaning.specs.declared.Reading.{Reading}
 use Rattle.meaning.specs.declared.Level.{Level}
 use Rattle.rule.specs.Says.{checkAnswer}
-use Rattle.host.specs.Numbers.{listed, fedNumbers}
+use Rattle.host.specs.Numbers.{answerNumbers, fedNumbers}
 
 pub data Numbered {A : Type 0} : Answer A → Type 0 where
   isGiven : {a : A} → Numbered (given a)
@@ -93,10 +93,14 @@ write-numbered R room =
 
 -- ---- the maker and a fresh reading
 
+short : (R : format.Rule) (book : List ℕ) → Numbered (bookCheck R book)
+unfolding bookCheck
+short R book = refuses _ _ _ _ (omega arith) isGiven
+
 pub book-numbered : (file book : List ℕ) → Numbered (makeBook file book)
 unfolding makeBook
 book-numbered file book =
-    gives _ _ (rule-numbered file) (λ R. refuses _ _ _ _ (omega arith) (refuses _ _ _ _ (omega arith) isGiven))
+    gives _ _ (rule-numbered file) (λ R. follows _ _ (short R book) (refuses _ _ _ _ (omega arith) isGiven))
 
 pub fresh-numbered : (file : List ℕ) → Numbered (freshCall file)
 unfolding freshCall
@@ -153,7 +157,7 @@ goes f n a (e ∷ es) = goes-on a (f a e) _ (n a e) (λ b. goes f n b es)
 reading : (file book : List ℕ) (r : Reading) (store : List Level) → Numbered (readingCheck file book r store)
 unfolding readingCheck
 reading file book r store =
-    gives _ _ (rule-numbered file) (λ R. refuses _ _ _ _ (omega arith) (refuses _ _ _ _ (omega arith) isGiven))
+    gives _ _ (rule-numbered file) (λ R. follows _ _ (short R book) (refuses _ _ _ _ (omega arith) isGiven))
 
 fed : (x : Answer format.Rule) (book : List ℕ) (ceiling : ℕ) (s : Stored) (events : List ℕ) → Numbered x → Numbered (fedFrom x book ceiling s events .ended)
 unfolding fedFrom
@@ -182,8 +186,8 @@ document-numbered file book store events = whole _ file book store events (book-
 
 -- ---- what a host may count on
 
-pub zero-given : {A : Type 0} (values : A → List ℕ) (x : Answer A) → Numbered x → getD (listed values x) 0 0 ≡ 0 → (a : A) × (x ≡ given a)
-unfolding listed
+pub zero-given : {A : Type 0} (values : A → List ℕ) (x : Answer A) → Numbered x → getD (answerNumbers values x) 0 0 ≡ 0 → (a : A) × (x ≡ given a)
+unfolding answerNumbers
 zero-given values (given a) n e = (a, refl)
 zero-given values (refused number place) (isRefused h) e = absurd (omega arith)
 

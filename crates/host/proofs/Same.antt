@@ -13,15 +13,15 @@ use Rattle.meaning.specs.declared.Level.{Level}
 use Rattle.meaning.specs.declared.Reading.{Reading}
 use Rattle.reading.specs.Feeding.{FedIs}
 use Rattle.reading.specs.Whole.{ReadIs}
-use Rattle.host.specs.Numbers.{Laid, listed, judgedValues, fedNumbers, FeedLaid, DocumentLaid}
+use Rattle.host.specs.Numbers.{Laid, answerNumbers, judgedValues, fedNumbers, FeedLaid, DocumentLaid}
 
 pub laid-as : {numbers numbers′ held : List ℕ} {fitted : Bool} {held′ : List ℕ} → numbers ≡ numbers′
     → Laid numbers held fitted held′ → Laid numbers′ held fitted held′
 laid-as e laid = rw (sym e) laid
 
 pub laid-says : {A : Type 0} (values : A → List ℕ) {a b : Answer A} {held : List ℕ} {fitted : Bool} {held′ : List ℕ} → a ≡ b
-    → Laid (listed values a) held fitted held′ → Laid (listed values b) held fitted held′
-laid-says values e laid = laid-as (ap (listed values) e) laid
+    → Laid (answerNumbers values a) held fitted held′ → Laid (answerNumbers values b) held fitted held′
+laid-says values e laid = laid-as (ap (answerNumbers values) e) laid
 
 pub laid-fed : {w : Went Stored} {before : Reading} {r : Fed} {store : List Level} {held : List ℕ} {fitted : Bool} {held′ : List ℕ}
     → FedIs w before r store
@@ -30,7 +30,7 @@ laid-fed fed laid =
     record { laid = rw (sym (fed .endedIs), sym (fed .takenIs), sym (fed .readingIs)) laid; storeIs = fed .storeIs }
 
 pub laid-read : {w : Whole} {r : End} {book : List ℕ} {store : List Level} {held : List ℕ} {fitted : Bool} {held′ : List ℕ} → ReadIs w r book store
-    → Laid (listed judgedValues (endSays r)) held fitted held′ → DocumentLaid w held fitted book store held′
+    → Laid (answerNumbers judgedValues (endSays r)) held fitted held′ → DocumentLaid w held fitted book store held′
 laid-read read laid =
     record { laid = laid-says judgedValues (read .answerIs) laid; bookIs = read .bookIs; storeIs = read .storeIs }
 

@@ -1,13 +1,13 @@
 -- What the exported calls lay into the lent answer: the number of the refusal or 0, its place or 0, and then the values that
 -- were given. They go in front of what the answer held; an answer that is too short for them stays as it was.
-use Prim.Native.Nat.{ℕ, _-_}
+use Prim.Native.Nat.{ℕ}
 use mathlib.Core.Path.{_≡_}
 use mathlib.Core.Bool.{Bool}
 use mathlib.Core.List.{List, [], _∷_, _++_}
 use lib.ListN.{length, drop}
 use Rattle.meaning.specs.Answers.{Answer, given, refused, _≤?_, if_then_else_}
 use Rattle.meaning.specs.FullReading.{Went}
-use Rattle.meaning.specs.Calls.{Judged, Stored, Whole}
+use Rattle.meaning.specs.Calls.{Judged, Stored, eventsTaken, Whole}
 use Rattle.meaning.specs.declared.Level.{Level}
 use Rattle.meaning.specs.declared.Reading.{Reading}
 use Rattle.rule.specs.declared.Rule.{Rule}
@@ -27,9 +27,9 @@ pub record Laid (numbers held : List ℕ) (fitted : Bool) (held′ : List ℕ) :
 
 -- ---- the numbers of an answer
 
-unfoldable pub listed : {A : Type 0} → (A → List ℕ) → Answer A → List ℕ
-listed values (given a) = 0 ∷ 0 ∷ values a
-listed values (refused number place) = number ∷ place ∷ []
+unfoldable pub answerNumbers : {A : Type 0} → (A → List ℕ) → Answer A → List ℕ
+answerNumbers values (given a) = 0 ∷ 0 ∷ values a
+answerNumbers values (refused number place) = number ∷ place ∷ []
 
 -- n, the initial state, the tree start and k
 abbrev pub ruleValues : Rule → List ℕ
@@ -54,7 +54,7 @@ fedNumbers (refused number place) took r = number ∷ place ∷ took ∷ reading
 
 -- the same of what the definition of feeding says, from the reading before it
 abbrev pub wentNumbers : Reading → Went Stored → List ℕ
-wentNumbers before w = fedNumbers (w .ended) (w .last .reading .taken - before .taken) (w .last .reading)
+wentNumbers before w = fedNumbers (w .ended) (eventsTaken before w) (w .last .reading)
 
 -- ---- a reading, which a host hands over as five numbers
 
@@ -69,6 +69,6 @@ pub record FeedLaid (w : Went Stored) (before : Reading) (held : List ℕ) (fitt
   pub storeIs : store ≡ w .last .store
 
 pub record DocumentLaid (w : Whole) (held : List ℕ) (fitted : Bool) (book : List ℕ) (store : List Level) (held′ : List ℕ) : Type 0 where
-  pub laid : Laid (listed judgedValues (w .answer)) held fitted held′
+  pub laid : Laid (answerNumbers judgedValues (w .answer)) held fitted held′
   pub bookIs : book ≡ w .book
   pub storeIs : store ≡ w .store

@@ -18,7 +18,7 @@ ghost use Rattle.meaning.specs.Calls.{verdictSays, endSays, feedingSays};
 ghost use Rattle.rule.specs.Says.{checkedSays, writtenSays};
 ghost use Rattle.book.specs.Says.{madeSays};
 ghost use Rattle.reading.specs.Checks.{begunSays};
-ghost use Rattle.host.specs.Numbers.{Laid, listed, ruleValues, countValue, readingValues, judgedValues, fedNumbers};
+ghost use Rattle.host.specs.Numbers.{Laid, answerNumbers, ruleValues, countValue, readingValues, judgedValues, fedNumbers};
 
 fn lay_refusal(refusal: Refusal, answer: &mut [u64]) -> bool
     ensures { λ r. ⌜ Laid (refusal .number ∷ refusal .place ∷ []) (now (answer .entry)) r (now (answer .exit)) ⌝ }
@@ -43,7 +43,7 @@ fn lay_rule(rule: Rule, answer: &mut [u64]) -> bool
 
 // The answer of the rule check.
 pub fn lay_checked(checked: Checked, answer: &mut [u64]) -> bool
-    ensures { λ r. ⌜ Laid (listed ruleValues (checkedSays checked)) (now (answer .entry)) r (now (answer .exit)) ⌝ }
+    ensures { λ r. ⌜ Laid (answerNumbers ruleValues (checkedSays checked)) (now (answer .entry)) r (now (answer .exit)) ⌝ }
 {
     match checked {
         Checked::Fine(rule) => lay_rule(rule, answer),
@@ -60,7 +60,7 @@ fn lay_count(count: u64, answer: &mut [u64]) -> bool
 
 // The answer of the writer.
 pub fn lay_written(written: Written, answer: &mut [u64]) -> bool
-    ensures { λ r. ⌜ Laid (listed countValue (writtenSays written)) (now (answer .entry)) r (now (answer .exit)) ⌝ }
+    ensures { λ r. ⌜ Laid (answerNumbers countValue (writtenSays written)) (now (answer .entry)) r (now (answer .exit)) ⌝ }
 {
     match written {
         Written::Bytes(count) => lay_count(count as u64, answer),
@@ -70,7 +70,7 @@ pub fn lay_written(written: Written, answer: &mut [u64]) -> bool
 
 // The answer of the maker.
 pub fn lay_made(made: Made, answer: &mut [u64]) -> bool
-    ensures { λ r. ⌜ Laid (listed countValue (madeSays made)) (now (answer .entry)) r (now (answer .exit)) ⌝ }
+    ensures { λ r. ⌜ Laid (answerNumbers countValue (madeSays made)) (now (answer .entry)) r (now (answer .exit)) ⌝ }
 {
     match made {
         Made::Still(count) => lay_count(count as u64, answer),
@@ -95,7 +95,7 @@ fn lay_reading(reading: Reading, answer: &mut [u64]) -> bool
 
 // The answer of a fresh reading.
 pub fn lay_begun(begun: Begun, answer: &mut [u64]) -> bool
-    ensures { λ r. ⌜ Laid (listed readingValues (begunSays begun)) (now (answer .entry)) r (now (answer .exit)) ⌝ }
+    ensures { λ r. ⌜ Laid (answerNumbers readingValues (begunSays begun)) (now (answer .entry)) r (now (answer .exit)) ⌝ }
 {
     match begun {
         Begun::At(reading) => lay_reading(reading, answer),
@@ -158,7 +158,7 @@ fn lay_judged(judged: Judgement, answer: &mut [u64]) -> bool
 
 // The answer of the end of a reading.
 pub fn lay_end(end: End, answer: &mut [u64]) -> bool
-    ensures { λ r. ⌜ Laid (listed judgedValues (endSays end)) (now (answer .entry)) r (now (answer .exit)) ⌝ }
+    ensures { λ r. ⌜ Laid (answerNumbers judgedValues (endSays end)) (now (answer .entry)) r (now (answer .exit)) ⌝ }
 {
     match end {
         End::Judged(judged) => lay_judged(judged, answer),

@@ -26,12 +26,12 @@ ghost use Rattle.meaning.specs.SkipBook.{makeBook, bookAfter};
 ghost use Rattle.meaning.specs.Calls.{freshCall, feedCall, finishCall, wholeDocument};
 ghost use Rattle.rule.specs.Says.{checkAnswer};
 ghost use Rattle.rule.specs.Checks.{ruleFrom};
-ghost use Rattle.host.specs.Numbers.{Laid, listed, ruleValues, countValue, readingValues, judgedValues, readingFrom, FeedLaid, DocumentLaid};
+ghost use Rattle.host.specs.Numbers.{Laid, answerNumbers, ruleValues, countValue, readingValues, judgedValues, readingFrom, FeedLaid, DocumentLaid};
 
 // The rule check: n, the initial state, the tree start and k.
 #[no_mangle]
 pub extern "C" fn venticapro_check_rule(file: &[u8], answer: &mut [u64]) -> bool
-    ensures { λ r. ⌜ Laid (listed ruleValues (checkAnswer (now (file .entry)))) (now (answer .entry)) r (now (answer .exit)) ⌝ }
+    ensures { λ r. ⌜ Laid (answerNumbers ruleValues (checkAnswer (now (file .entry)))) (now (answer .entry)) r (now (answer .exit)) ⌝ }
 {
     lay_checked(Rule::of_file(file), answer)
 }
@@ -49,7 +49,7 @@ pub extern "C" fn venticapro_write_rule(
     output: &mut [u8],
     answer: &mut [u64],
 ) -> bool
-    ensures { λ r. ⌜ Laid (listed countValue (writeCheck (ruleFrom states initial «tree_start» letters (now («letter_moves» .entry)) (now («tree_moves» .entry)) (now (classes .entry))) (length (now (output .entry))))) (now (answer .entry)) r (now (answer .exit)) ⌝ }
+    ensures { λ r. ⌜ Laid (answerNumbers countValue (writeCheck (ruleFrom states initial «tree_start» letters (now («letter_moves» .entry)) (now («tree_moves» .entry)) (now (classes .entry))) (length (now (output .entry))))) (now (answer .entry)) r (now (answer .exit)) ⌝ }
     ensures { λ _. ⌜ now (output .exit) ≡ outputAfter (writeCheck (ruleFrom states initial «tree_start» letters (now («letter_moves» .entry)) (now («tree_moves» .entry)) (now (classes .entry))) (length (now (output .entry)))) (ruleFrom states initial «tree_start» letters (now («letter_moves» .entry)) (now («tree_moves» .entry)) (now (classes .entry))) (now (output .entry)) ⌝ }
 {
     let written = write(
@@ -68,7 +68,7 @@ pub extern "C" fn venticapro_write_rule(
 // The maker: how many states are still; the book lies in the words lent.
 #[no_mangle]
 pub extern "C" fn venticapro_make_book(file: &[u8], book: &mut [u64], answer: &mut [u64]) -> bool
-    ensures { λ r. ⌜ Laid (listed countValue (makeBook (now (file .entry)) (now (book .entry)))) (now (answer .entry)) r (now (answer .exit)) ⌝ }
+    ensures { λ r. ⌜ Laid (answerNumbers countValue (makeBook (now (file .entry)) (now (book .entry)))) (now (answer .entry)) r (now (answer .exit)) ⌝ }
     ensures { λ _. ⌜ now (book .exit) ≡ bookAfter (makeBook (now (file .entry)) (now (book .entry))) (ruleOf (now (file .entry))) (now (book .entry)) ⌝ }
 {
     lay_made(make_book(file, book), answer)
@@ -77,7 +77,7 @@ pub extern "C" fn venticapro_make_book(file: &[u8], book: &mut [u64], answer: &m
 // A fresh reading: its state and its four counts.
 #[no_mangle]
 pub extern "C" fn venticapro_fresh(file: &[u8], answer: &mut [u64]) -> bool
-    ensures { λ r. ⌜ Laid (listed readingValues (freshCall (now (file .entry)))) (now (answer .entry)) r (now (answer .exit)) ⌝ }
+    ensures { λ r. ⌜ Laid (answerNumbers readingValues (freshCall (now (file .entry)))) (now (answer .entry)) r (now (answer .exit)) ⌝ }
 {
     lay_begun(fresh(file), answer)
 }
@@ -124,7 +124,7 @@ pub extern "C" fn venticapro_finish(
     levels: &[Level],
     answer: &mut [u64],
 ) -> bool
-    ensures { λ r. ⌜ Laid (listed judgedValues (finishCall (now (file .entry)) (now (book .entry)) (readingFrom state depth skip taken looks) (now (levels .entry)))) (now (answer .entry)) r (now (answer .exit)) ⌝ }
+    ensures { λ r. ⌜ Laid (answerNumbers judgedValues (finishCall (now (file .entry)) (now (book .entry)) (readingFrom state depth skip taken looks) (now (levels .entry)))) (now (answer .entry)) r (now (answer .exit)) ⌝ }
 {
     let reading = Reading {
         state,

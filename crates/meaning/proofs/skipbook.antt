@@ -3,4 +3,5 @@ pub mod Reaching
 pub mod Marks
 pub mod Rounds
 pub mod Bits
+pub mod BookLong
 pub mod BookMade

@@ -1,7 +1,7 @@
 -- The calls over the lent level store.
 pub mod Turns
 pub mod StoreView
-pub mod StillReading
+pub mod KeptReading
 pub mod ReadingCheck
 pub mod SplitFeeds
 pub mod OneAnswer

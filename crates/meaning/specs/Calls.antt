@@ -1,11 +1,11 @@
 -- The calls (document 01, "Calls and numbers"): for each, its answer on every input and what it leaves in each lent slice.
 -- The rule check, the writer and the maker stand with their own headings. Every call here takes the rule as the bytes of
 -- its file.
-use Prim.Native.Nat.{ℕ, _+_, _-_}
+use Prim.Native.Nat.{ℕ, _+_, _-_, _≤_, _<_}
 use mathlib.Core.Path.{_≡_}
 use mathlib.Core.Bool.{Bool, not, _&&_, _||_}
 use mathlib.Core.List.{List}
-use lib.ListN.{length, getD, set}
+use lib.ListN.{length, getD, set, take}
 use Rattle.meaning.specs.declared.Reading.{Reading}
 use Rattle.meaning.specs.declared.Level.{Level}
 use Rattle.meaning.specs.declared.Refusal.{Refusal}
@@ -15,10 +15,10 @@ use Rattle.meaning.specs.declared.End.{End}
 use Rattle.meaning.specs.declared.End.the-variants as end
 use Rattle.meaning.specs.declared.Feeding.{Feeding}
 use Rattle.meaning.specs.declared.Feeding.the-variants as feeding
-use Rattle.meaning.specs.Answers.{Answer, given, refused, refuse_at_when_otherwise_, _giving_, _<?_, if_then_else_}
+use Rattle.meaning.specs.Answers.{Answer, given, refused, refuse_at_when_otherwise_, _andThen_, _giving_, _<?_, if_then_else_}
 use Rattle.meaning.specs.RuleFile.{Rule, isState, classOf, checkRule, ruleOf}
 use Rattle.meaning.specs.FullReading.{Turn, stays, stores, ends, Run, innermost, blank, freshReading, Went, feedBy}
-use Rattle.meaning.specs.SkipBook.{allBelow, makeBook, bookAfter}
+use Rattle.meaning.specs.SkipBook.{allBelow, bookCheck, makeBook, bookAfter}
 use Rattle.meaning.specs.Skipping.{settled, skipEvent}
 
 -- ---- the number and the values of each case of an answer
@@ -74,22 +74,44 @@ storeStep R book ceiling s e =
 
 -- ---- feed
 
--- Number 13: state not below n; depth above the store's length; a stored state below that depth not below n; skip depth
--- above zero on an unsettled level; depth plus skip depth above events taken; looks above events taken.
+-- Number 13 has six conditions. The state is not below n;
+abbrev pub stateOut : Rule → Reading → Bool
+stateOut R r = not (isState (R .states) (r .state))
+
+-- the depth is above the store's length;
+abbrev pub depthPastStore : Reading → List Level → Bool
+depthPastStore r store = length store <? r .depth
+
+-- a stored state below that depth is not below n;
+abbrev pub storedStateOut : Rule → Reading → List Level → Bool
+storedStateOut R r store = not (allBelow (r .depth) (λ i. isState (R .states) (getD store i blank .above)))
+
+-- the skip depth is above zero on an unsettled level;
+abbrev pub skipsUnsettled : List ℕ → Reading → List Level → Bool
+skipsUnsettled book r store = 0 <? r .skip && not (settled book r (topOf r store))
+
+-- depth plus skip depth are above the events taken;
+abbrev pub levelsPastTaken : Reading → Bool
+levelsPastTaken r = r .taken <? r .depth + r .skip
+
+-- the looks are above the events taken.
+abbrev pub looksPastTaken : Reading → Bool
+looksPastTaken r = r .taken <? r .looks
+
 unfoldable pub notReading : Rule → List ℕ → Reading → List Level → Bool
 notReading R book r store =
-    not (isState (R .states) (r .state))
-    || (length store <? r .depth
-    || (not (allBelow (r .depth) (λ i. isState (R .states) (getD store i blank .above)))
-    || ((0 <? r .skip && not (settled book r (topOf r store)))
-    || (r .taken <? r .depth + r .skip
-    || r .taken <? r .looks))))
+    stateOut R r
+    || (depthPastStore r store
+    || (storedStateOut R r store
+    || (skipsUnsettled book r store
+    || (levelsPastTaken r
+    || looksPastTaken r))))
 
 -- what feed and finish check first: rule, 6, 13
 unfoldable pub readingCheck : List ℕ → List ℕ → Reading → List Level → Answer Rule
 readingCheck file book r store =
     checkRule file giving λ R.
-    refuse 6 at 0 when length book <? R .states + 1 otherwise
+    bookCheck R book andThen
     refuse 13 at 0 when notReading R book r store otherwise
     given R
 
@@ -97,10 +119,41 @@ unfoldable pub fedFrom : Answer Rule → List ℕ → ℕ → Stored → List �
 fedFrom (given R) book ceiling s events = feedBy (storeStep R book ceiling) s events
 fedFrom (refused number place) book ceiling s events = record { last = s; ended = refused number place }
 
--- the reading and the store after feeding, and how it ended; the events it took are those taken since
+-- the reading and the store after feeding, and how it ended
 unfoldable pub feedCall : List ℕ → List ℕ → ℕ → Reading → List Level → List ℕ → Went Stored
 feedCall file book ceiling r store events =
     fedFrom (readingCheck file book r store) book ceiling (record { reading = r; store = store }) events
+
+-- how many events it took: those taken since
+abbrev pub eventsTaken : Reading → Went Stored → ℕ
+eventsTaken before fed = fed .last .reading .taken - before .taken
+
+-- The event after the n that were taken is there, and it was refused, with that number and at its place.
+pub record StoppedAt (R : Rule) (book : List ℕ) (ceiling : ℕ) (r : Reading) (events : List ℕ) (w : Went Stored) (n number place : ℕ)
+    : Type 0 where
+  pub more : n < length events
+  pub atPlace : place ≡ r .taken + n
+  pub refuses : storeStep R book ceiling (w .last) (getD events n 0) ≡ refused number place
+
+-- A feed w of these events took the first n of them, whatever was handed in.
+pub record TookFirst (file book : List ℕ) (ceiling : ℕ) (r : Reading) (store : List Level) (events : List ℕ) (w : Went Stored) (n : ℕ)
+    : Type 0 where
+  -- no more than there are, and the events taken grow by so many
+  pub within : n ≤ length events
+  pub counted : w .last .reading .taken ≡ r .taken + n
+  -- these alone lead to the same place
+  pub sameLast : feedCall file book ceiling r store (take n events) .last ≡ w .last
+  -- all taken: all of them
+  pub allTaken : w .ended ≡ given tt → n ≡ length events
+  -- where the check passed, all of these are taken, and a refusal is of the event after them
+  pub theseTaken : {R : Rule} → readingCheck file book r store ≡ given R
+      → feedCall file book ceiling r store (take n events) .ended ≡ given tt
+  pub stopped : {R : Rule} {number place : ℕ} → readingCheck file book r store ≡ given R → w .ended ≡ refused number place
+      → StoppedAt R book ceiling r events w n number place
+  -- where the check refused, none is taken and nothing changes
+  pub noneTaken : {number place : ℕ} → readingCheck file book r store ≡ refused number place → n ≡ 0
+  pub unchanged : {number place : ℕ} → readingCheck file book r store ≡ refused number place
+      → w .last ≡ record { reading = r; store = store }
 
 -- ---- finish
 

@@ -63,8 +63,8 @@ look table place (to state) next = given (next state)
 
 -- The record that an open stores: the state above the new level and the place of the opening. A place is the count of
 -- events taken before the event in question.
-unfoldable pub opened : Reading → Level
-opened r = record { above = r .state; opened = r .taken }
+unfoldable pub newLevel : Reading → Level
+newLevel r = record { above = r .state; opened = r .taken }
 
 -- `room` is the length of the level store, and `top` the record of the innermost open level, if there is one.
 -- letter a: the state becomes the letter move of state and a;
@@ -77,7 +77,7 @@ fullTurn R room ceiling r top (letter a) =
 fullTurn R room ceiling r top opens =
     refuse 8 at r .taken when room ≤? r .depth otherwise
     refuse 9 at r .taken when ceiling ≤? r .looks otherwise
-    look startTable (r .taken) (treeStartMove R) (λ q. stores (opened r) (looked r q (r .depth + 1)))
+    look startTable (r .taken) (treeStartMove R) (λ q. stores (newLevel r) (looked r q (r .depth + 1)))
 fullTurn R room ceiling r top closes =
     refuse 7 at r .taken when r .depth =? 0 otherwise
     refuse 9 at r .taken when ceiling ≤? r .looks otherwise

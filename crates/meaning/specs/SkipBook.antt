@@ -6,7 +6,7 @@ use mathlib.Core.Bool.{Bool, true, false, not, _&&_, _||_}
 use mathlib.Core.List.{List, [], _∷_, _++_}
 use lib.ListN.{length, getD, drop}
 use lib.Count.{ones}
-use Rattle.meaning.specs.Answers.{Answer, given, refused, refuse_at_when_otherwise_, _giving_, _<?_, _=?_}
+use Rattle.meaning.specs.Answers.{Answer, given, refused, refuse_at_when_otherwise_, _andThen_, _giving_, _<?_, _=?_}
 use Rattle.meaning.specs.RuleFile.{Rule, Move, noMove, to, letterMove, treeMove, checkRule, ruleOf}
 
 -- ---- Reach
@@ -137,12 +137,16 @@ pub record IsBook (R : Rule) (book : List ℕ) : Type 0 where
 
 -- ---- the maker
 
+-- number 6: the book is shorter than n+1
+unfoldable pub bookCheck : Rule → List ℕ → Answer Unit
+bookCheck R book = refuse 6 at 0 when length book <? R .states + 1 otherwise given tt
+
 -- Refusals: the rule check, a book shorter than n+1, rounds used up. Otherwise how many states are still, counted as the
 -- ones in that word.
 unfoldable pub makeBook : List ℕ → List ℕ → Answer ℕ
 makeBook file book =
     checkRule file giving λ R.
-    refuse 6 at 0 when length book <? R .states + 1 otherwise
+    bookCheck R book andThen
     refuse 15 at 0 when roundsUsedUp R otherwise
     given (ones (wordOf (stillMarks R)))
 

@@ -35,7 +35,7 @@ use Rattle.rule.specs.declared.Checked.{Checked}
 use Rattle.rule.specs.declared.Checked.the-variants as answered
 use Rattle.reading.specs.Checks.{readingAnswer}
 use Rattle.reading.specs.Feeding.{FedIs, fedOf}
-use Rattle.turning.specs.Advancing.{rest, startOf, Goes, Gone}
+use Rattle.turning.specs.Advancing.{rest, startOf, CanGoOn, Gone}
 use Rattle.reading.specs.Whole.{MadeRule}
 use Rattle.turning.specs.declared.Going.{Going}
 use Rattle.reading.proofs.FedArray as Fa
@@ -97,11 +97,11 @@ module _ {M : Type 1} {𝓤 : URA M} {H : Heap 𝓤} {A : Atoms 𝓤} (W : Given
       (λ z. known ((tt, tt, tt, (checked, (r, (count, tt))), (checked-value .val checked ∷ [], (reading-value .val r ∷ [], (vint w64 count ∷ [], tt)))), tt))
       (λ x ws e. (e, refl))
 
-  pub feed-loop-by : (file : List ℕ) (rule : Rule) (book : List ℕ) (ceiling : ℕ) (going : Going) (levels : List Level) (events : List ℕ) → Meets 𝓤 H A feed-loop.signature (𝓣 .C #feed-loop) (feed-loop.spec 𝓤 H A at-mem run) → {b₀ o₀ n₀ b₁ o₁ n₁ b₂ o₂ n₂ b₃ o₃ n₃ : ℕ} (l₀ : ShrLoan 𝓤 H A u8 b₀ o₀ n₀ file) (l₁ : ShrLoan 𝓤 H A u64 b₁ o₁ n₁ book) (l₂ : MutLoan 𝓤 H A record-type b₂ o₂ n₂ levels) (l₃ : ShrLoan 𝓤 H A u16 b₃ o₃ n₃ events) → FitsIn rule-value rule → ceiling < 2 ^ 32 → FitsIn going-value going → (Goes file rule book levels events going)
+  pub feed-loop-by : (file : List ℕ) (rule : Rule) (book : List ℕ) (ceiling : ℕ) (going : Going) (levels : List Level) (events : List ℕ) → Meets 𝓤 H A feed-loop.signature (𝓣 .C #feed-loop) (feed-loop.spec 𝓤 H A at-mem run) → {b₀ o₀ n₀ b₁ o₁ n₁ b₂ o₂ n₂ b₃ o₃ n₃ : ℕ} (l₀ : ShrLoan 𝓤 H A u8 b₀ o₀ n₀ file) (l₁ : ShrLoan 𝓤 H A u64 b₁ o₁ n₁ book) (l₂ : MutLoan 𝓤 H A record-type b₂ o₂ n₂ levels) (l₃ : ShrLoan 𝓤 H A u16 b₃ o₃ n₃ events) → FitsIn rule-value rule → ceiling < 2 ^ 32 → FitsIn going-value going → (CanGoOn file rule book levels events going)
       → Gives 𝓤 H A (𝓣 .C #feed-loop) (l₀ .before ∷ l₁ .before ∷ l₂ .before ∷ l₃ .before ∷ []) (sliceVal (b₀, o₀) n₀ ∷ rule-value .val rule ∷ sliceVal (b₁, o₁) n₁ ∷ vint w32 ceiling ∷ going-value .val going ∷ sliceVal (b₂, o₂) n₂ ∷ sliceVal (b₃, o₃) n₃ ∷ [])
       (Said (going-value .row) (going-value .val) (λ x. Gone (rest (ruleOf file) book ceiling levels events going) (going .reading) (length levels) x (rest (ruleOf file) book ceiling levels events going .last .store))) (λ x. going-value .val (x .answer)) (λ _. l₀ .before ∷ l₁ .before ∷ l₂ .after (rest (ruleOf file) book ceiling levels events going .last .store) ∷ l₃ .before ∷ [])
   feed-loop-by file rule book ceiling going levels events known {b₀} {o₀} {n₀} {b₁} {o₁} {n₁} {b₂} {o₂} {n₂} {b₃} {o₃} {n₃} l₀ l₁ l₂ l₃ f1 f3 f4 need0 =
-      replies-with W 𝓣 #feed-loop (lent (as-shr 𝓤 H A u8 b₀ o₀ n₀ file l₀) ∷ passed rule-value rule f1 ∷ lent (as-shr 𝓤 H A u64 b₁ o₁ n₁ book l₁) ∷ number 𝓤 H A W w32 ceiling f3 ∷ passed going-value going f4 ∷ lent (as-mut 𝓤 H A record-type b₂ o₂ n₂ levels l₂) ∷ lent (as-shr 𝓤 H A u16 b₃ o₃ n₃ events l₃) ∷ []) (going-value .row) (going-value .val) (going-value .tells) (λ x ws. Gone (rest (ruleOf file) book ceiling levels events going) (going .reading) (length levels) x (ws .1 .1 .1 .1 .1 .0)) (fact 𝓤 (Goes file rule book levels events going)) (factI 𝓤 (Goes file rule book levels events going) (emp 𝓤) need0) (λ x. Gone (rest (ruleOf file) book ceiling levels events going) (going .reading) (length levels) x (rest (ruleOf file) book ceiling levels events going .last .store)) (tt, (tt, (tt, (tt, (tt, (rest (ruleOf file) book ceiling levels events going .last .store, (tt, tt)))))))
+      replies-with W 𝓣 #feed-loop (lent (as-shr 𝓤 H A u8 b₀ o₀ n₀ file l₀) ∷ passed rule-value rule f1 ∷ lent (as-shr 𝓤 H A u64 b₁ o₁ n₁ book l₁) ∷ number 𝓤 H A W w32 ceiling f3 ∷ passed going-value going f4 ∷ lent (as-mut 𝓤 H A record-type b₂ o₂ n₂ levels l₂) ∷ lent (as-shr 𝓤 H A u16 b₃ o₃ n₃ events l₃) ∷ []) (going-value .row) (going-value .val) (going-value .tells) (λ x ws. Gone (rest (ruleOf file) book ceiling levels events going) (going .reading) (length levels) x (ws .1 .1 .1 .1 .1 .0)) (fact 𝓤 (CanGoOn file rule book levels events going)) (factI 𝓤 (CanGoOn file rule book levels events going) (emp 𝓤) need0) (λ x. Gone (rest (ruleOf file) book ceiling levels events going) (going .reading) (length levels) x (rest (ruleOf file) book ceiling levels events going .last .store)) (tt, (tt, (tt, (tt, (tt, (rest (ruleOf file) book ceiling levels events going .last .store, (tt, tt)))))))
       (λ z. known (((l₀ .lifetime (z .0), (l₁ .lifetime (z .1 .0), (l₂ .lifetime (z .1 .1 .0), (l₃ .lifetime (z .1 .1 .1 .0), tt)))), (l₀ .share (z .0), (l₁ .share (z .1 .0), (l₂ .share (z .1 .1 .0), (l₃ .share (z .1 .1 .1 .0), tt)))), tt, (at-list u8 (l₀ .name (z .0)) b₀ o₀ file, (rule, (at-list u64 (l₁ .name (z .1 .0)) b₁ o₁ book, (ceiling, (going, (at-list record-type (l₂ .name (z .1 .1 .0)) b₂ o₂ levels, (at-list u16 (l₃ .name (z .1 .1 .1 .0)) b₃ o₃ events, tt))))))), (sliceVal (b₀, o₀) n₀ ∷ [], (rule-value .val rule ∷ [], (sliceVal (b₁, o₁) n₁ ∷ [], (vint w32 ceiling ∷ [], (going-value .val going ∷ [], (sliceVal (b₂, o₂) n₂ ∷ [], (sliceVal (b₃, o₃) n₃ ∷ [], tt)))))))), tt))
       (λ x ws e. (subst (Gone (rest (ruleOf file) book ceiling levels events going) (going .reading) (length levels) x) (gone-store e) e, ap (λ (zs : List Level). (tt, (tt, (tt, (tt, (tt, (zs, (tt, tt)))))))) (gone-store e)))
 

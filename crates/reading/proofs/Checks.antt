@@ -15,6 +15,7 @@ use Rattle.meaning.specs.declared.Level.{Level}
 use Rattle.meaning.specs.declared.Reading.{Reading}
 use Rattle.meaning.specs.declared.Refusal.{Refusal}
 use Rattle.meaning.proofs.rulefile.Accepted.{accepted-rule}
+use Rattle.meaning.proofs.skipbook.BookLong.{long-passes, short-stops}
 use Rattle.meaning.proofs.laws.Answered.{refuse-stops, refuse-passes, giving-given, giving-passes, giving-stops}
 use Rattle.meaning.proofs.stores.ReadingCheck.{check-says, check-passes, feed-checked, feed-unchecked, finish-checked, finish-unchecked}
 use Rattle.rule.specs.Says.{numbersOf, checkedSays, checkAnswer, RuleOf}
@@ -24,7 +25,7 @@ use Rattle.rule.specs.declared.Checked.the-variants as checked
 use Rattle.rule.proofs.Said.{fine-accepted, giving-refused}
 use Rattle.turning.specs.Turns.{Feeds}
 use Rattle.reading.specs.Feeding.{FedIs, fedOf}
-use Rattle.turning.specs.Advancing.{rest, restOf, startOf, Goes, Gone}
+use Rattle.turning.specs.Advancing.{rest, restOf, startOf, CanGoOn, Gone}
 use Rattle.turning.specs.declared.Going.{Going}
 use Rattle.reading.specs.Checks.{ruleIn, readingAnswer}
 use Rattle.turning.proofs.Steps.{turn-ready}
@@ -50,20 +51,20 @@ module _ (file book : List ℕ) (r : Reading) (store : List Level) where
     pub answer-short : length book < rule .states + 1 → readingAnswer file book r store ≡ refused 6 0
     unfolding readingAnswer readingCheck
     answer-short short =
-        giving-stops _ (giving-passes _ (h .accepted) ∙ refuse-stops 6 0 _ (lt-ltb (length book) (ruleOf file .states + 1) (omega (arith, states-are h))))
+        giving-stops _ (giving-passes _ (h .accepted) ∙ short-stops (ruleOf file) book _ (omega (arith, states-are h)))
 
     module _ (long : rule .states + 1 ≤ length book) where
       pub answer-unread : notReading (ruleOf file) book r store ≡ true → readingAnswer file book r store ≡ refused 13 0
       unfolding readingAnswer readingCheck
       answer-unread is =
           giving-stops _
-          (giving-passes _ (h .accepted) ∙ (refuse-passes 6 0 _ (le-ltb (length book) (ruleOf file .states + 1) (omega (arith, states-are h))) ∙ refuse-stops 13 0 _ is))
+          (giving-passes _ (h .accepted) ∙ (long-passes (ruleOf file) book _ (omega (arith, states-are h)) ∙ refuse-stops 13 0 _ is))
 
       pub answer-fine : notReading (ruleOf file) book r store ≡ false → readingAnswer file book r store ≡ given rule
       unfolding readingAnswer readingCheck
       answer-fine isNot =
           giving-passes _
-          (giving-passes _ (h .accepted) ∙ (refuse-passes 6 0 _ (le-ltb (length book) (ruleOf file .states + 1) (omega (arith, states-are h))) ∙ refuse-passes 13 0 _ isNot))
+          (giving-passes _ (h .accepted) ∙ (long-passes (ruleOf file) book _ (omega (arith, states-are h)) ∙ refuse-passes 13 0 _ isNot))
           ∙ ap given (h .numbers)
 
   -- ---- what the answer says to the caller
@@ -110,7 +111,7 @@ start-reading (checked.Refused f) r count = refl
 module _ (file book : List ℕ) (r : Reading) (store : List Level) where
   -- feeding may begin
   pub start-goes : (x : Checked) (events : List ℕ) → checkedSays x ≡ readingAnswer file book r store
-      → Goes file (ruleIn x) book store events (startOf x r (length events))
+      → CanGoOn file (ruleIn x) book store events (startOf x r (length events))
   unfolding ruleIn startOf
   start-goes (checked.Fine rule) events e =
       record { within = omega arith; taken = λ _. refl; feeds = λ _. fine-feeds file book r store rule e }

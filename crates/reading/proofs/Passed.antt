@@ -50,8 +50,8 @@ use Rattle.rule.proofs.Rule.of_file as of-file
 use Rattle.rule.proofs.Rule.of_file.Symbol.{name as #of-file}
 use Rattle.reading.proofs.checking.rule_in as rule-in
 use Rattle.reading.proofs.checking.rule_in.Symbol.{name as #rule-in}
-use Rattle.reading.proofs.checking.still_in as still-in
-use Rattle.reading.proofs.checking.still_in.Symbol.{name as #still-in}
+use Rattle.reading.proofs.checking.inside_with as inside-with
+use Rattle.reading.proofs.checking.inside_with.Symbol.{name as #inside-with}
 use Rattle.reading.proofs.checking.stored_in as stored-in
 use Rattle.reading.proofs.checking.stored_in.Symbol.{name as #stored-in}
 use Rattle.reading.proofs.checking.depth_within as depth-within
@@ -126,9 +126,9 @@ module _ {M : Type 1} {𝓤 : URA M} {H : Heap 𝓤} {A : Atoms 𝓤} (W : Given
       (λ z. known ((tt, tt, tt, (x, tt), (checked-value .val x ∷ [], tt)), tt))
       (λ y ws e. (e, refl))
 
-  pub still-in-by : Meets 𝓤 H A still-in.signature (𝓣 .C #still-in) (still-in.spec 𝓤 H A at-mem run) → (inside : Bool) (d : Level) → FitsIn level-value d → {n : ℕ} → n < 2 ^ 8
-      → Gives 𝓤 H A (𝓣 .C #still-in) [] (vbool inside ∷ level-value .val d ∷ vint w8 n ∷ []) (Is bool (inside && isState n (d .above)) (vbool (inside && isState n (d .above)) ∷ [])) (λ _. vbool (inside && isState n (d .above))) (λ _. [])
-  still-in-by known inside d fits {n} gn = replies-one W 𝓣 #still-in (flag 𝓤 H A W inside ∷ passed level-value d fits ∷ number 𝓤 H A W w8 n gn ∷ []) bool vbool bool-tells (λ x ws. x ≡ (inside && isState n (d .above))) (emp 𝓤) (id⊢ 𝓤 (emp 𝓤)) (inside && isState n (d .above)) (tt, (tt, (tt, tt)))
+  pub inside-with-by : Meets 𝓤 H A inside-with.signature (𝓣 .C #inside-with) (inside-with.spec 𝓤 H A at-mem run) → (inside : Bool) (d : Level) → FitsIn level-value d → {n : ℕ} → n < 2 ^ 8
+      → Gives 𝓤 H A (𝓣 .C #inside-with) [] (vbool inside ∷ level-value .val d ∷ vint w8 n ∷ []) (Is bool (inside && isState n (d .above)) (vbool (inside && isState n (d .above)) ∷ [])) (λ _. vbool (inside && isState n (d .above))) (λ _. [])
+  inside-with-by known inside d fits {n} gn = replies-one W 𝓣 #inside-with (flag 𝓤 H A W inside ∷ passed level-value d fits ∷ number 𝓤 H A W w8 n gn ∷ []) bool vbool bool-tells (λ x ws. x ≡ (inside && isState n (d .above))) (emp 𝓤) (id⊢ 𝓤 (emp 𝓤)) (inside && isState n (d .above)) (tt, (tt, (tt, tt)))
       (λ z. known ((tt, tt, tt, (inside, (d, (n, tt))), (vbool inside ∷ [], (level-value .val d ∷ [], (vint w8 n ∷ [], tt)))), tt))
       (λ x ws e. (e, refl))
 

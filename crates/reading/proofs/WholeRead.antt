@@ -17,8 +17,8 @@ use Rattle.meaning.specs.declared.Level.{Level}
 use Rattle.meaning.specs.declared.Refusal.{Refusal}
 use Rattle.meaning.proofs.rulefile.Accepted.{accepted-is-rule}
 use Rattle.meaning.proofs.laws.Answered.{giving-stops}
-use Rattle.meaning.proofs.stores.StillReading.{reading-is, fed-reading}
-use Rattle.meaning.proofs.stores.Whole.{fresh-reading, made-says, made-length, whole-refused, whole-made, whole-feeds, whole-finishes}
+use Rattle.meaning.proofs.stores.KeptReading.{reading-is, feeding-keeps-reading}
+use Rattle.meaning.proofs.stores.Whole.{fresh-reading, maker-gave, made-length, whole-refused, whole-made, whole-feeds, whole-finishes}
 use Rattle.rule.specs.declared.Rule.{Rule}
 use Rattle.rule.specs.declared.Checked.{Checked}
 use Rattle.rule.specs.declared.Checked.the-variants as checked
@@ -27,7 +27,7 @@ use Rattle.rule.proofs.Said.{refused-check}
 use Rattle.turning.specs.Turns.{Feeds, over}
 use Rattle.reading.specs.Whole.{endFed, ReadIs, MadeRule}
 use Rattle.reading.specs.Checks.{ruleIn}
-use Rattle.turning.specs.Advancing.{rest, restOf, startOf, Goes, Gone}
+use Rattle.turning.specs.Advancing.{rest, restOf, startOf, CanGoOn, Gone}
 use Rattle.turning.specs.declared.Going.{Going}
 use Rattle.turning.proofs.Steps.{turn-ready}
 use Rattle.reading.proofs.Checks.{ruled-by}
@@ -68,11 +68,11 @@ module _ (file book : List ℕ) where
   pub made-rule : {count : ℕ} {rule : Rule} {book′ : List ℕ} → makeBook file book ≡ given count → book′ ≡ madeBook file book
       → RuleOf file rule → rule .states < length book′
   made-rule made same h =
-      rw same (omega (arith, made-length file book made, made-says file book made .longEnough, states-are h))
+      rw same (omega (arith, made-length file book made, maker-gave file book made .longEnough, states-are h))
 
   pub made-accepted : {count number place : ℕ} {A : Type 0} → makeBook file book ≡ given count → checkRule file ≡ refused number place → A
   made-accepted made e =
-      let accepted = made-says file book made .accepted in
+      let accepted = maker-gave file book made .accepted in
       let z : _≡_ {A = ℕ} 0 1 = cc in absurd (omega arith)
 
 -- ---- how the call goes on after the maker: with its refusal, or with the rule of which it made the book
@@ -103,7 +103,7 @@ module _ (file book : List ℕ) where
   module _ {book′ : List ℕ} (same : book′ ≡ madeBook file book) (first : Reading) (store : List Level) (events : List ℕ) where
     -- feeding may begin
     pub document-goes : {x : Checked} → Begins x → ((file : List ℕ) → RuleOf file (ruleIn x) → first ≡ freshReading (ruleOf file))
-        → Goes file (ruleIn x) book′ store events (startOf x first (length events))
+        → CanGoOn file (ruleIn x) book′ store events (startOf x first (length events))
     unfolding ruleIn startOf
     document-goes (refuses f e) fresh =
         record { within = omega arith; taken = λ less. absurd (omega arith); feeds = λ less. absurd (omega arith) }
@@ -127,7 +127,7 @@ module _ (file book : List ℕ) where
       document-needs (begins count rule e h) fresh gone all =
           let long = made-rule file book e same h in
           let came : readAll file book′ store events ≡ record { last = over (g .reading) store′; ended = feedingSays (g .ended) } = rw (fresh file h) at (gone .comes) in
-          let still = rw came at (fed-reading (accepted-is-rule file (h .accepted)) book′ largestCeiling (over (freshReading (ruleOf file)) store) events (fresh-feeds h book′ long store .isReading)) in
+          let still = rw came at (feeding-keeps-reading (accepted-is-rule file (h .accepted)) book′ largestCeiling (over (freshReading (ruleOf file)) store) events (fresh-feeds h book′ long store .isReading)) in
           (h, turn-ready (record { ruled = h; bookLong = long; isReading = still }) .states .stateIn)
 
       -- and the answer of its end is the call's

@@ -3,7 +3,7 @@ use Prim.Native.Nat.{_-_}
 use mathlib.Core.Path.{_≡_}
 use mathlib.Core.List.{List}
 use Rattle.meaning.specs.FullReading.{Went}
-use Rattle.meaning.specs.Calls.{Stored, feedingSays}
+use Rattle.meaning.specs.Calls.{Stored, eventsTaken, feedingSays}
 use Rattle.meaning.specs.declared.Fed.{Fed}
 use Rattle.meaning.specs.declared.Level.{Level}
 use Rattle.meaning.specs.declared.Reading.{Reading}
@@ -13,7 +13,7 @@ use Rattle.turning.specs.declared.Going.{Going}
 pub record FedIs (w : Went Stored) (before : Reading) (r : Fed) (store : List Level) : Type 0 where
   pub readingIs : r .reading ≡ w .last .reading
   pub endedIs : feedingSays (r .ended) ≡ w .ended
-  pub takenIs : r .taken ≡ w .last .reading .taken - before .taken
+  pub takenIs : r .taken ≡ eventsTaken before w
   pub storeIs : store ≡ w .last .store
 
 -- the answer, from where feeding began and where it ended

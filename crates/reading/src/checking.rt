@@ -39,7 +39,7 @@ pub fn rule_in(checked: Checked) -> Rule
 }
 
 // Whether a stored state is below n, and those before it are.
-pub fn still_in(inside: bool, level: Level, states: u8) -> bool
+pub fn inside_with(inside: bool, level: Level, states: u8) -> bool
     ensures { λ r. ⌜ r ≡ (inside && isState states (level .above)) ⌝ }
 {
     if inside {
@@ -56,7 +56,7 @@ pub fn stored_in(levels: &[Level], depth: usize, states: u8) -> bool
     let mut i = 0;
     while i < depth {
         let level = level_at(levels, i);
-        inside = still_in(inside, level, states);
+        inside = inside_with(inside, level, states);
         i += 1;
     }
     inside

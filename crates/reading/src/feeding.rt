@@ -15,7 +15,7 @@ ghost use mathlib.Core.Path.{_≡_};
 ghost use Prim.Native.Nat.{_-_, _≤_};
 ghost use lib.ListN.{length};
 ghost use Rattle.meaning.specs.RuleFile.{ruleOf};
-ghost use Rattle.turning.specs.Advancing.{rest, startOf, Goes, Gone};
+ghost use Rattle.turning.specs.Advancing.{rest, startOf, CanGoOn, Gone};
 ghost use Rattle.reading.specs.Feeding.{fedOf};
 
 // Where feeding begins: before the first event, or at the check's refusal with none left.
@@ -47,7 +47,7 @@ pub fn feed_loop(
     levels: &mut [Level],
     events: &[u16],
 ) -> Going
-    requires { ⌜ Goes (now file) rule (now book) (now levels) (now events) going ⌝ }
+    requires { ⌜ CanGoOn (now file) rule (now book) (now levels) (now events) going ⌝ }
     ensures { λ r. ⌜ Gone (rest (ruleOf (now (file .entry))) (now (book .entry)) ceiling (now (levels .entry)) (now (events .entry)) going) (going .reading) (length (now (levels .entry))) r (now (levels .exit)) ⌝ }
 {
     let count = room(&*levels);

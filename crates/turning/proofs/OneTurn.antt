@@ -21,41 +21,25 @@ use Rattle.meaning.specs.declared.Reading.{Reading}
 use Rattle.meaning.specs.declared.Refusal.{Refusal}
 use Rattle.meaning.proofs.rulefile.Accepted.{accepted-is-rule}
 use Rattle.meaning.proofs.laws.FeedLaws.{feed-taken, feed-refused, feed-none}
-use Rattle.meaning.proofs.stores.StillReading.{IsReading, reading-is, still-reading}
+use Rattle.meaning.proofs.stores.KeptReading.{IsReading, reading-is, event-keeps-reading}
 use Rattle.meaning.proofs.stores.StoreView.{step-turned}
 use Rattle.meaning.proofs.stores.Turns.{Turned, passes, endsHeld, takesLetter, storesOpen, endsLooked}
 use Rattle.rule.specs.declared.Rule.{Rule}
 use Rattle.turning.specs.Turns.{Ready, Stands, Feeds, over}
 use Rattle.turning.specs.PassingOver.{passedOn, PassesOver}
-use Rattle.turning.specs.Advancing.{restOf, rest, Goes, Advances, Gone}
+use Rattle.turning.specs.Advancing.{restOf, rest, CanGoOn, Advances, Gone}
 use Rattle.turning.specs.declared.Advance.{Advance}
 use Rattle.turning.specs.declared.Going.{Going}
-use Rattle.turning.specs.declared.PassedOver.{PassedOver}
+use Rattle.turning.specs.declared.PassedTo.{PassedTo}
+use Rattle.meaning.proofs.stores.Took.{step-taken}
 use Rattle.turning.proofs.PassesOn.{on-settled}
 use Rattle.turning.proofs.Turned.{letters-are}
 use Rattle.turning.proofs.Steps.{reading-in, turn-ready}
 
--- ---- an event that is taken is one more
-
-turn-taken : {R : format.Rule} {book : List ℕ} {room : ℕ} {r : Reading} {top : Level} {event : Event} {turn : Turn} (store : List Level)
-    → Turned R book room r top event turn → storedAfter r store turn .reading .taken ≡ r .taken + 1
-unfolding storedAfter looked passed
-turn-taken store (passes event skip is h) = refl
-turn-taken store (endsHeld is z) = refl
-turn-taken store (takesLetter a q isNot known m) = refl
-turn-taken store (storesOpen q isNot fits m) = refl
-turn-taken store (endsLooked q isNot z deep m) = refl
-
-step-taken : (R : format.Rule) (book : List ℕ) (ceiling : ℕ) (s t : Stored) (e : ℕ) → storeStep R book ceiling s e ≡ given t
-    → t .reading .taken ≡ s .reading .taken + 1
-step-taken R book ceiling s t e h =
-    let g = step-turned R book ceiling s t e h in
-    sym (ap (λ t. t .reading .taken) (g .2)) ∙ turn-taken (s .store) (g .1)
-
 -- ---- a run that was passed over leaves a reading
 
 -- the next event may count on what the run could count on
-pub passed-ready : {file : List ℕ} {rule : Rule} {book : List ℕ} {r : Reading} {top : Level} {events : List ℕ} {next : ℕ} {p : PassedOver}
+pub passed-ready : {file : List ℕ} {rule : Rule} {book : List ℕ} {r : Reading} {top : Level} {events : List ℕ} {next : ℕ} {p : PassedTo}
     → PassesOver (rule .letters) book r top events next p → Ready file rule book r top → Ready file rule book (p .reading) top
 unfolding passedOn
 passed-ready o h =
@@ -68,13 +52,13 @@ passed-ready o h =
     })
 
 -- and the level stands as it stood
-pub passed-stands : {k : ℕ} {book : List ℕ} {r : Reading} {top : Level} {events : List ℕ} {next : ℕ} {p : PassedOver} {isHeld isSettled : Bool}
+pub passed-stands : {k : ℕ} {book : List ℕ} {r : Reading} {top : Level} {events : List ℕ} {next : ℕ} {p : PassedTo} {isHeld isSettled : Bool}
     → PassesOver k book r top events next p → Stands book r top isHeld isSettled → Stands book (p .reading) top isHeld isSettled
 unfolding passedOn held settled
 passed-stands o s = rw (o .same) (record { heldIs = s .heldIs; settledIs = s .settledIs })
 
 module _ {file : List ℕ} {rule : Rule} {book : List ℕ} {r : Reading} {store : List Level} (h : Feeds file rule book r store) where
-  pub passed-feeds : {events : List ℕ} {next : ℕ} {p : PassedOver} → PassesOver (rule .letters) book r (topOf r store) events next p
+  pub passed-feeds : {events : List ℕ} {next : ℕ} {p : PassedTo} → PassesOver (rule .letters) book r (topOf r store) events next p
       → Feeds file rule book (p .reading) store
   unfolding passedOn
   passed-feeds {events} {next} {p} o =
@@ -96,12 +80,12 @@ module _ {file : List ℕ} {rule : Rule} {book : List ℕ} {r : Reading} {store 
       }
 
   -- its innermost record is the same
-  pub passed-top : {events : List ℕ} {next : ℕ} {top : Level} {p : PassedOver} → PassesOver (rule .letters) book r top events next p
+  pub passed-top : {events : List ℕ} {next : ℕ} {top : Level} {p : PassedTo} → PassesOver (rule .letters) book r top events next p
       → topOf r store ≡ top → topOf (p .reading) store ≡ top
   unfolding passedOn topOf
   passed-top o same = rw (o .same) same
 
-  pub passed-more : {events : List ℕ} {next : ℕ} {top : Level} {p : PassedOver} → PassesOver (rule .letters) book r top events next p
+  pub passed-more : {events : List ℕ} {next : ℕ} {top : Level} {p : PassedTo} → PassesOver (rule .letters) book r top events next p
       → r .taken ≤ p .reading .taken
   unfolding passedOn
   passed-more o = rw (o .same) (omega arith)
@@ -132,7 +116,7 @@ module _ {file : List ℕ} {rule : Rule} {book : List ℕ} (ceiling : ℕ) {r : 
       record {
         ruled = h .ruled;
         bookLong = h .bookLong;
-        isReading = still-reading (accepted-is-rule file (h .ruled .accepted)) book ceiling before t event (h .isReading) said;
+        isReading = event-keeps-reading (accepted-is-rule file (h .ruled .accepted)) book ceiling before t event (h .isReading) said;
       } in
       record {
         further = omega arith;
@@ -155,7 +139,7 @@ module _ {file : List ℕ} {rule : Rule} {book : List ℕ} (ceiling : ℕ) {r : 
       }
 
   -- all that is left is passed over
-  pub passes-all : {p : PassedOver} → PassesOver (rule .letters) book r (topOf r store) events next p → length events ≤ p .next
+  pub passes-all : {p : PassedTo} → PassesOver (rule .letters) book r (topOf r store) events next p → length events ≤ p .next
       → set store place level ≡ store
       → Advances file rule book ceiling store r events next
       (record { going = record { reading = p .reading; next = p .next; ended = feeding.AllTaken }; place = place; level = level })
@@ -170,7 +154,7 @@ module _ {file : List ℕ} {rule : Rule} {book : List ℕ} (ceiling : ℕ) {r : 
 
 -- what is passed over, and then a turn
 pub passes-on : {file : List ℕ} {rule : Rule} {book : List ℕ} (ceiling : ℕ) {r : Reading} {store : List Level} → Feeds file rule book r store
-    → (events : List ℕ) {next : ℕ} {a : Advance} {p : PassedOver}
+    → (events : List ℕ) {next : ℕ} {a : Advance} {p : PassedTo}
     → PassesOver (rule .letters) book r (topOf r store) events next p → Advances file rule book ceiling store (p .reading) events (p .next) a
     → Advances file rule book ceiling store r events next a
 passes-on {file} {rule} {book} ceiling {r} {store} h events o a =
@@ -195,12 +179,12 @@ module _ (file : List ℕ) (rule : Rule) (book : List ℕ) (ceiling : ℕ) (even
 
   -- what the loop keeps, where feeding stands at g over a store
   pub record Underway (g : Going) (store : List Level) : Type 0 where
-    pub goes : Goes file rule book store events g
+    pub goes : CanGoOn file rule book store events g
     pub comes : rest (ruleOf file) book ceiling store events g ≡ all
     pub more : start .reading .taken ≤ g .reading .taken
     pub sameRoom : length store ≡ length store₀
 
-  pub underway-start : Goes file rule book store₀ events start → Underway start store₀
+  pub underway-start : CanGoOn file rule book store₀ events start → Underway start store₀
   underway-start h = record { goes = h; comes = refl; more = omega arith; sameRoom = refl }
 
   module _ {g : Going} {store : List Level} (u : Underway g store) where

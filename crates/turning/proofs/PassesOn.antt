@@ -21,7 +21,7 @@ use Rattle.meaning.proofs.laws.FeedLaws.{feed-taken}
 use Rattle.meaning.proofs.laws.Answered.{if-true, refuse-passes, giving-passes}
 use Rattle.turning.specs.Turns.{over}
 use Rattle.turning.specs.PassingOver.{openings, closings, unknowns, total, Passing, passedOn, PassesOver}
-use Rattle.turning.specs.declared.PassedOver.{PassedOver}
+use Rattle.turning.specs.declared.PassedTo.{PassedTo}
 use Rattle.turning.proofs.Counting.{opens-one, opens-none, opens-few, closes-one, closes-none, known-cons, passing-nil, passing-cons}
 
 -- ---- one event
@@ -134,7 +134,7 @@ module _ (k : ℕ) (r : Reading) (events : List ℕ) (from : ℕ) where
       (rw (add-one i) (is .1)) (rw (add-one i) (one .1)))
 
   -- where passing over was left
-  pub passes-left : (skip i : ℕ) (p : PassedOver) → Passes skip i → (p .reading ≡ passedOn r skip (i - from)) × (p .next ≡ i)
+  pub passes-left : (skip i : ℕ) (p : PassedTo) → Passes skip i → (p .reading ≡ passedOn r skip (i - from)) × (p .next ≡ i)
       → (book : List ℕ) (top : Level) → settled book r top ≡ true → PassesOver k book r top events from p
   unfolding passedOn
   passes-left skip i p h left book top is =

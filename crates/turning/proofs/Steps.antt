@@ -14,7 +14,7 @@ use Rattle.meaning.specs.Skipping.{skipEvent}
 use Rattle.meaning.specs.Calls.{topOf, storedAfter, storeStep}
 use Rattle.meaning.specs.declared.Reading.{Reading}
 use Rattle.meaning.specs.declared.Level.{Level}
-use Rattle.meaning.proofs.stores.StillReading.{IsReading, is-reading}
+use Rattle.meaning.proofs.stores.KeptReading.{IsReading, is-reading}
 use Rattle.rule.specs.declared.Rule.{Rule}
 use Rattle.turning.specs.declared.Turn.{Turn}
 use Rattle.turning.specs.Turns.{turnSays, Ready, Feeds, over}

@@ -9,7 +9,7 @@ use borrow.Author.Tests.{ne-eqb, leb-true, lt-leb, ltb-true}
 use lib.ListN.{length}
 use Rattle.meaning.specs.Answers.{Answer, given, refused, refuse_at_when_otherwise_, if_then_else_, _≤?_, _=?_}
 use Rattle.meaning.specs.RuleFile.{none, mostStates, mostLetters, classCount, asMove, classOf, isClass, isStates, isLetters, ruleOf, to, noMove, treeStartMove}
-use Rattle.meaning.specs.FullReading.{opens, closes, letter, eventOf, mostEvents, knownEvent, Table, letterTable, startTable, treeTable, noMoveNumber, look, looked, opened, fullTurn, Turn, stays, stores, ends}
+use Rattle.meaning.specs.FullReading.{opens, closes, letter, eventOf, mostEvents, knownEvent, Table, letterTable, startTable, treeTable, noMoveNumber, look, looked, newLevel, fullTurn, Turn, stays, stores, ends}
 use Rattle.meaning.specs.SkipBook.{inStill}
 use Rattle.meaning.specs.Skipping.{held, settled}
 use Rattle.meaning.specs.declared.Reading.{Reading}
@@ -165,7 +165,7 @@ module _ {file : List ℕ} {rule : Rule} (h : RuleOf file rule) where
 
   pub open-turn : (room ceiling : ℕ) (r : Reading) (top : Level) → r .depth < room
       → fullTurn (ruleOf file) room ceiling r top opens
-      ≡ lookAt ceiling r startTable (rule .«tree_start») (λ q. stores (opened r) (looked r q (r .depth + 1)))
+      ≡ lookAt ceiling r startTable (rule .«tree_start») (λ q. stores (newLevel r) (looked r q (r .depth + 1)))
   unfolding fullTurn treeStartMove
   open-turn room ceiling r top free = refuse-passes 8 (r .taken) _ (lt-leb room (r .depth) free) ∙ rw tree-start-is
 

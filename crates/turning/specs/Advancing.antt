@@ -35,7 +35,7 @@ startOf (checked.Fine rule) r count = record { reading = r; next = 0; ended = fe
 startOf (checked.Refused f) r count = record { reading = r; next = count; ended = feeding.Refused f }
 
 -- where an event is left, none was refused, and what stands there is a reading
-pub record Goes (file : List ℕ) (rule : Rule) (book : List ℕ) (store : List Level) (events : List ℕ) (g : Going) : Type 0 where
+pub record CanGoOn (file : List ℕ) (rule : Rule) (book : List ℕ) (store : List Level) (events : List ℕ) (g : Going) : Type 0 where
   pub within : g .next ≤ length events
   pub taken : g .next < length events → g .ended ≡ feeding.AllTaken
   pub feeds : g .next < length events → Feeds file rule book (g .reading) store
@@ -44,7 +44,7 @@ pub record Goes (file : List ℕ) (rule : Rule) (book : List ℕ) (store : List 
 pub record Advances (file : List ℕ) (rule : Rule) (book : List ℕ) (ceiling : ℕ) (store : List Level) (r : Reading) (events : List ℕ) (next : ℕ) (a : Advance) : Type 0 where
   pub further : next < a .going .next
   pub more : r .taken ≤ a .going .reading .taken
-  pub goes : Goes file rule book (set store (a .place) (a .level)) events (a .going)
+  pub goes : CanGoOn file rule book (set store (a .place) (a .level)) events (a .going)
   pub comes : rest (ruleOf file) book ceiling (set store (a .place) (a .level)) events (a .going)
       ≡ feedBy (storeStep (ruleOf file) book ceiling) (over r store) (drop next events)
 

@@ -13,7 +13,7 @@ use Rattle.meaning.specs.Calls.{topOf, storeStep}
 use Rattle.meaning.specs.declared.Level.{Level}
 use Rattle.meaning.specs.declared.Reading.{Reading}
 use Rattle.turning.specs.Turns.{over}
-use Rattle.turning.specs.declared.PassedOver.{PassedOver}
+use Rattle.turning.specs.declared.PassedTo.{PassedTo}
 use Rattle.turning.specs.declared.passing.Counts.{Counts}
 use Rattle.turning.specs.declared.passing.Depths.{Depths}
 use Rattle.turning.specs.declared.passing.Passed.{Passed}
@@ -78,7 +78,7 @@ pub record Ahead (from count end r : ℕ) : Type 0 where
 unfoldable pub passedOn : Reading → ℕ → ℕ → Reading
 passedOn r skip count = record { state = r .state; depth = r .depth; skip = skip; taken = r .taken + count; looks = r .looks }
 
-pub record PassesOver (k : ℕ) (book : List ℕ) (r : Reading) (top : Level) (events : List ℕ) (i : ℕ) (p : PassedOver) : Type 0 where
+pub record PassesOver (k : ℕ) (book : List ℕ) (r : Reading) (top : Level) (events : List ℕ) (i : ℕ) (p : PassedTo) : Type 0 where
   pub further : i ≤ p .next
   pub within : p .next ≤ length events
   pub same : p .reading ≡ passedOn r (p .reading .skip) (p .next - i)

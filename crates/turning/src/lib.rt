@@ -20,7 +20,7 @@ pub enum Turn {
 }
 
 // Where passing over a run of events was left: the reading there, and the index of the next event.
-pub struct PassedOver {
+pub struct PassedTo {
     pub reading: Reading,
     pub next: usize,
 }

@@ -1,5 +1,5 @@
 // Passing over a run of events on a settled level, by counting alone: no table, no store and no book is read.
-use crate::PassedOver;
+use crate::PassedTo;
 use crate::turns::MOST_EVENTS;
 use meaning::Level;
 use meaning::Reading;
@@ -228,12 +228,12 @@ fn last_event(taken: u32, from: usize, count: usize) -> usize
 }
 
 // Where passing over was left: the reading there, and the next event.
-fn left_at(reading: Reading, skip: u32, from: usize, next: usize) -> PassedOver
+fn left_at(reading: Reading, skip: u32, from: usize, next: usize) -> PassedTo
     requires { ⌜ (from ≤ next) × (reading .taken + (next - from) ≤ mostEvents) ⌝ }
     ensures { λ r. ⌜ (r .reading ≡ passedOn reading skip (next - from)) × (r .next ≡ next) ⌝ }
 {
     let taken = reading.taken + (next - from) as u32;
-    PassedOver {
+    PassedTo {
         reading: Reading {
             state: reading.state,
             depth: reading.depth,
@@ -246,7 +246,7 @@ fn left_at(reading: Reading, skip: u32, from: usize, next: usize) -> PassedOver
 }
 
 // On a settled level events are taken by counting alone, up to the close that ends the level or an event that is refused.
-fn pass_over(letters: u16, reading: Reading, events: &[u16], from: usize) -> PassedOver
+fn pass_over(letters: u16, reading: Reading, events: &[u16], from: usize) -> PassedTo
     requires { ⌜ Counted reading ⌝ ∗ ⌜ letters ≤ 256 ⌝ ∗ ⌜ from ≤ length (now events) ⌝ }
     ensures { λ r. ⌜ ((book : List ℕ) (top : Level) → skipping.settled book reading top ≡ true → PassesOver letters book reading top (now (events .entry)) from r) ⌝ }
 {
@@ -274,14 +274,14 @@ pub fn pass_settled(
     reading: Reading,
     events: &[u16],
     from: usize,
-) -> PassedOver
+) -> PassedTo
     requires { ⌜ Counted reading ⌝ ∗ ⌜ letters ≤ 256 ⌝ ∗ ⌜ from ≤ length (now events) ⌝ }
     ensures { λ r. ⌜ ((book : List ℕ) (top : Level) → settled ≡ skipping.settled book reading top → PassesOver letters book reading top (now (events .entry)) from r) ⌝ }
 {
     if settled {
         return pass_over(letters, reading, events, from);
     }
-    PassedOver {
+    PassedTo {
         reading,
         next: from,
     }

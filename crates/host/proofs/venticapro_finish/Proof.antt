@@ -49,7 +49,7 @@ use Rattle.meaning.proofs.Reading as Rd
 use Rattle.meaning.proofs.Reading.Laws as Rd′
 use Rattle.reading.proofs.Passed.{reading-value}
 use Rattle.reading.proofs.Called.{end-value, finish-by}
-use Rattle.host.specs.Numbers.{Laid, listed, inFront, judgedValues, readingFrom}
+use Rattle.host.specs.Numbers.{Laid, answerNumbers, inFront, judgedValues, readingFrom}
 use Rattle.host.proofs.Same.{laid-says}
 use Rattle.host.proofs.Called.{lay-end-by}
 use Rattle.reading.proofs.finish as finish
@@ -103,7 +103,7 @@ module _ {M : Type 1} (𝓤 : URA M) (H : Heap 𝓤) (A : Atoms 𝓤) (W : Given
   r = readingFrom state depth skip taken looks
 
   abbrev laid : End → List ℕ
-  laid end = inFront (listed judgedValues (endSays end)) answer
+  laid end = inFront (answerNumbers judgedValues (endSays end)) answer
 
   abbrev at : Vals venticapro-finish.signature κs
   at = valss (rows ps κs) (spells ps κs) a
@@ -126,7 +126,7 @@ module _ {M : Type 1} (𝓤 : URA M) (H : Heap 𝓤) (A : Atoms 𝓤) (W : Given
   abbrev Answer : List ℕ → Item 𝓤
   Answer zs = ‵ (Kept u64 (κs .1 .1 .1 .0) (qs .1 .1 .1 .0) (a .1 .1 .1 .1 .1 .1 .1 .1 .0 .name) (a .1 .1 .1 .1 .1 .1 .1 .1 .0 .ptr .0) (a .1 .1 .1 .1 .1 .1 .1 .1 .0 .ptr .1) (length answer) zs)
 
-  exits : (end : End) (fitted : Bool) → length (laid end) ≡ length answer → Laid (listed judgedValues (finishCall file book r levels)) answer fitted (laid end) → ent 𝓤 (⋆ 𝓤 H A (File ∷ Book ∷ Levels ∷ Answer (laid end) ∷ [])) (Post (vbool fitted))
+  exits : (end : End) (fitted : Bool) → length (laid end) ≡ length answer → Laid (answerNumbers judgedValues (finishCall file book r levels)) answer fitted (laid end) → ent 𝓤 (⋆ 𝓤 H A (File ∷ Book ∷ Levels ∷ Answer (laid end) ∷ [])) (Post (vbool fitted))
   exits end fitted same-answer said =
       qed W (File ∷ Book ∷ Levels ∷ Answer (laid end) ∷ []) ∵
       suffices ! _ (ends-at 𝓤 H A venticapro-finish.ended stayed (venticapro-finish.clauses 𝓤 H A at-mem run) W ((κs, qs, tt, a, at), tt) (vbool fitted) fitted (tt, (tt, (tt, (tt, (tt, (tt, (tt, (tt, ((laid end), tt))))))))) (tt, (tt, (tt, (tt, (tt, (tt, (tt, (tt, (same-answer, tt)))))))))) $ says ! said $

@@ -43,7 +43,7 @@ use Rattle.levels.proofs.Loans.{Kept, Shown, recounted, shown}
 use Rattle.meaning.specs.Calls.{Whole, endSays, wholeDocument}
 use Rattle.meaning.specs.declared.End.{End}
 use Rattle.reading.proofs.Called.{end-value}
-use Rattle.host.specs.Numbers.{listed, inFront, judgedValues, DocumentLaid}
+use Rattle.host.specs.Numbers.{answerNumbers, inFront, judgedValues, DocumentLaid}
 use Rattle.host.proofs.Same.{laid-read}
 use Rattle.host.proofs.Called.{lay-end-by, read-document-by}
 use Rattle.reading.proofs.read_document as read-document
@@ -85,7 +85,7 @@ module _ {M : Type 1} (𝓤 : URA M) (H : Heap 𝓤) (A : Atoms 𝓤) (W : Given
   comes = wholeDocument file book levels events
 
   abbrev laid : End → List ℕ
-  laid end = inFront (listed judgedValues (endSays end)) answer
+  laid end = inFront (answerNumbers judgedValues (endSays end)) answer
 
   abbrev at : Vals venticapro-read-document.signature κs
   at = valss (rows ps κs) (spells ps κs) a

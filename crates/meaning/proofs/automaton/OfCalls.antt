@@ -69,8 +69,7 @@ module _ (R : Rule) (room ceiling : ℕ) (events : List ℕ) where
       let there = full-is-machine R room ceiling (freshRun R) fresh-stands events _ _ .1 (streams, f .suffices) in
       let skip = full-skips-nothing R room ceiling (freshRun R) fresh-stands events (there .allTaken) in
       let flat : run .last .reading .depth + run .last .reading .skip ≤ 0 =
-      omega (arith, there .stored, skip, no-levels (run .last .levels) (there .withStack)) in
-      (
+      omega (arith, there .stored, skip, no-levels (run .last .levels) (there .withStack)) in (
         there .allTaken,
         refuse-passes 12 _ _ (le-ltb 0 _ flat)
             ∙ rw (there .inState, ← f .classIs),

@@ -15,7 +15,7 @@ use Rattle.meaning.specs.declared.Reading.{Reading}
 use Rattle.meaning.specs.declared.Level.{Level}
 use Rattle.meaning.specs.Answers.{Answer, given, refused, _≤?_, _=?_}
 use Rattle.meaning.specs.RuleFile.{Rule, to, letterMove, treeMove, treeStartMove}
-use Rattle.meaning.specs.FullReading.{Event, opens, closes, letter, eventOf, mostEvents, looked, opened, Turn, stays, stores, ends, fullTurn, knownEvent, fullEvent, Run, innermost, outer, runAfter, fullStep, Went, feedBy}
+use Rattle.meaning.specs.FullReading.{Event, opens, closes, letter, eventOf, mostEvents, looked, newLevel, Turn, stays, stores, ends, fullTurn, knownEvent, fullEvent, Run, innermost, outer, runAfter, fullStep, Went, feedBy}
 use Rattle.meaning.specs.Hedges.{Hedge, ε, _·_, ⟨_⟩·_, eventsOf, Goes, byNothing, byLetter, byTree, deepestOn, deepest}
 use Rattle.meaning.specs.StreamingMachine.{Streams, readsNothing, readsLetter, readsOpen, readsClose, PartialRun, ofHedge, intoTree, aboves, Suffices}
 use Rattle.meaning.proofs.laws.Answered.{giving-given}
@@ -134,7 +134,7 @@ data Taken (R : Rule) (room ceiling : ℕ) (r : Reading) (top : Level) : Event �
   letterTaken : (a q : ℕ) → r .taken < mostEvents → r .looks < ceiling → a < R .letters → letterMove R (r .state) a ≡ to q
       → Taken R room ceiling r top (letter a) (stays (looked r q (r .depth)))
   openTaken : (q : ℕ) → r .taken < mostEvents → r .looks < ceiling → r .depth < room → treeStartMove R ≡ to q
-      → Taken R room ceiling r top opens (stores (opened r) (looked r q (r .depth + 1)))
+      → Taken R room ceiling r top opens (stores (newLevel r) (looked r q (r .depth + 1)))
   closeTaken : (q : ℕ) → r .taken < mostEvents → r .looks < ceiling → 0 < r .depth → treeMove R (top .above) (r .state) ≡ to q
       → Taken R room ceiling r top closes (ends (looked r q (r .depth - 1)))
 
@@ -189,7 +189,7 @@ module _ (R : Rule) (room ceiling : ℕ) where
       → ((r′ : Reading) (ls′ : List Level) → record { reading = r′; levels = ls′ } ≡ runAfter ls turn → r′ .depth ≡ length ls′
       → Went-by R room ceiling r′ ls′ es m)
       → Went-by R room ceiling r ls (e ∷ es) m
-  unfolding eventOf runAfter looked opened outer innermost aboves deepest deepestOn
+  unfolding eventOf runAfter looked newLevel outer innermost aboves deepest deepestOn
   first-then r ls (suc (suc a)) es depth (letterTaken b q more below known leads) rest =
       let w = rest (looked r q (r .depth)) ls refl depth in
       record {
@@ -201,7 +201,7 @@ module _ (R : Rule) (room ceiling : ℕ) where
         taken = λ h. omega (arith, w .taken (omega arith));
       }
   first-then r ls zero es depth (openTaken q more below fits leads) rest =
-      let w = rest (looked r q (r .depth + 1)) (opened r ∷ ls) refl (omega arith) in
+      let w = rest (looked r q (r .depth + 1)) (newLevel r ∷ ls) refl (omega arith) in
       let deeper = ap (λ n. deepest n es) (add-one (r .depth)) in
       record {
         streams = readsOpen leads (w .streams);
@@ -254,7 +254,7 @@ module _ (R : Rule) (room ceiling : ℕ) where
       → r .state ≡ q → aboves ls ≡ σ → r .depth ≡ length ls
       → Suffices room ceiling (record { reading = r; levels = ls }) es
       → Arrives (full r ls es) q′ σ′
-  unfolding runAfter looked opened outer innermost aboves deepest deepestOn eventOf
+  unfolding runAfter looked newLevel outer innermost aboves deepest deepestOn eventOf
   machine-read r ls readsNothing state stack depth enough =
       rw (feed-none (fullStep R room ceiling) (record { reading = r; levels = ls }))
       (record { allTaken = refl; inState = state; withStack = stack; stored = depth })
@@ -273,7 +273,7 @@ module _ (R : Rule) (room ceiling : ℕ) where
       let one = open-look R room ceiling m (omega (arith, enough .taken)) (omega (arith, enough .looks)) fits in
       let step = look-to {q = p} (rw leads at one) in
       rw (feed-taken (fullStep R room ceiling) es step)
-      (machine-read (looked r p (r .depth + 1)) (opened r ∷ ls) s refl (rw (state, stack)) (omega arith)
+      (machine-read (looked r p (r .depth + 1)) (newLevel r ∷ ls) s refl (rw (state, stack)) (omega arith)
       (record {
         levels = omega (arith, enough .levels, deeper);
         looks = omega (arith, enough .looks);

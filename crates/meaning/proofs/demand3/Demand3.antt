@@ -13,7 +13,7 @@ use Rattle.meaning.specs.declared.Level.{Level}
 use Rattle.meaning.specs.Answers.{Answer, given, refused, _≤?_, _<?_, if_then_else_}
 use Rattle.meaning.specs.RuleFile.{Rule, IsRule, to, letterMove, treeMove, treeStartMove}
 use Rattle.meaning.specs.FullReading.{Event, opens, closes, letter, eventOf, letterTable, startTable, treeTable, freshRun, fullRun}
-use Rattle.meaning.specs.FullReading.{Turn, ends, looked, opened, fullTurn, knownEvent, fullEvent, fullStep}
+use Rattle.meaning.specs.FullReading.{Turn, ends, looked, newLevel, fullTurn, knownEvent, fullEvent, fullStep}
 use Rattle.meaning.specs.FullReading.{Run, innermost, outer, runAfter, freshReading}
 use Rattle.meaning.specs.SkipBook.{canEndTree, Reach, inStill, IsBook}
 use Rattle.meaning.specs.Skipping.{held, settled, passed, endsLevel, settledTurn, skipTurn, skipEvent, skipStep, skipRun}
@@ -204,9 +204,9 @@ not-sooner : (most m n : ℕ) → n ≤ m → (most ≤? m) ≡ false → (most 
 not-sooner most m n less free = lt-leb most n (omega (arith, leb-false most m free))
 
 -- one state and one place make one record
-opened-same : (r r′ : Reading) → r .state ≡ r′ .state → r .taken ≡ r′ .taken → opened r ≡ opened r′
-unfolding opened
-opened-same r r′ state taken = λ i. record { above = state i; opened = taken i }
+new-level-same : (r r′ : Reading) → r .state ≡ r′ .state → r .taken ≡ r′ .taken → newLevel r ≡ newLevel r′
+unfolding newLevel
+new-level-same r r′ state taken = λ i. record { above = state i; opened = taken i }
 
 length-outer : (σ : List Level) → length (outer σ) ≡ length σ - 1
 unfolding outer
@@ -224,7 +224,7 @@ module _ {R : Rule} {book : List ℕ} (rule : IsRule R) (own : IsBook R book) (r
       → (v ≡ opens → levelSettled book (r′ .state) σ ≡ false)
       → Follows (After R book r [] r′ σ v) (fullTurn R room ceiling r (innermost σ) v)
       (fullTurn R room ceiling r′ (innermost σ) v)
-  unfolding fullTurn looked runAfter opened
+  unfolding fullTurn looked runAfter newLevel
   both-look same (letter a) needed unsettled =
       refuse-each 9 _ _ _ _ below-ceiling
       λ free. look-each letterTable _ _ _ _ (cc)
@@ -236,8 +236,8 @@ module _ {R : Rule} {book : List ℕ} (rule : IsRule R) (own : IsBook R book) (r
       λ fits. refuse-each 9 _ _ _ _ below-ceiling
       λ free. look-each startTable _ _ _ _ refl
       λ q leads. bothGive
-      (rw (opened-same r r′ same (along .counts .taken))
-      (meet (looked r q (r .depth + 1)) (looked r′ q (r′ .depth + 1)) (opened r′ ∷ σ) (omega arith) (start-below rule leads)
+      (rw (new-level-same r r′ same (along .counts .taken))
+      (meet (looked r q (r .depth + 1)) (looked r′ q (r′ .depth + 1)) (newLevel r′ ∷ σ) (omega arith) (start-below rule leads)
       (within (along .state) (unsettled refl) (along .outside)) refl (one-look (r′ .looks) needed)))
   both-look same closes needed unsettled =
       let level : r .depth ≡ r′ .depth = omega arith in
@@ -298,15 +298,15 @@ module _ {R : Rule} {book : List ℕ} (rule : IsRule R) (own : IsBook R book) (r
       → ((a : ℕ) → v ≡ letter a → a < R .letters) → levelSettled book (r′ .state) σ ≡ true
       → Follows (After R book r τ r′ σ v) (fullTurn R room ceiling r (innermost (τ ++ σ)) v)
       (settledTurn R book room ceiling r′ (innermost σ) v)
-  unfolding fullTurn settledTurn endsLevel runAfter innermost outer closesStill opened looked passed
+  unfolding fullTurn settledTurn endsLevel runAfter innermost outer closesStill newLevel looked passed
   settled-turn {τ} σ along (letter a) known settles =
       refuse-first 9 _ _ λ free. look-first letterTable _ _ λ q leads. bothGive
       (goes-on (letter a) along settles refl (looked r q (r .depth)) τ (r′ .skip) (omega arith)
       (ahead-letter rule a (along .ahead) (known a refl) leads))
   settled-turn {τ} σ along opens known settles =
       refuse-first 8 _ _ λ fits. refuse-first 9 _ _ λ free. look-first startTable _ _ λ q leads. bothGive
-      (goes-on opens along settles refl (looked r q (r .depth + 1)) (opened r ∷ τ) (r′ .skip + 1) (omega arith)
-      (ahead-open rule (opened r) (along .ahead) leads))
+      (goes-on opens along settles refl (looked r q (r .depth + 1)) (newLevel r ∷ τ) (r′ .skip + 1) (omega arith)
+      (ahead-open rule (newLevel r) (along .ahead) leads))
   settled-turn {τ = []} σ along closes known settles =
       let same = held-is book r′ σ (along .counts .stored) in
       if-second _ (λ more. absurd (omega (arith, ltb-true 0 (r′ .skip) more)))

@@ -16,21 +16,13 @@ use Rattle.meaning.specs.Calls.{Judged, Stored, storeStep, topOf, openPl
 use Rattle.meaning.specs.Skipping.{skipRun, Zeros}
 use Rattle.meaning.specs.Demands.{EndsAsFull}
 use Rattle.meaning.proofs.rulefile.Accepted.{accepted-is-rule}
-use Rattle.meaning.proofs.skipbook.BookMade.{made-is-book}
+use Rattle.meaning.proofs.skipbook.BookMade.{maker-writes}
 use Rattle.meaning.proofs.skipbook.Rounds.{never-used-up}
 use Rattle.meaning.proofs.stores.ReadingCheck.{feed-checked, finish-checked, fed-checked}
 use Rattle.meaning.proofs.stores.StoreView.{levelsOf, OneView, store-is-levels}
-use Rattle.meaning.proofs.stores.Whole.{made-says, made-length, fresh-checked}
+use Rattle.meaning.proofs.stores.Whole.{maker-gave, made-length, fresh-checked}
 use Rattle.meaning.proofs.stores.ZeroBook.{zero-book}
 use Rattle.meaning.proofs.demand3.Demand3.{demand-3}
-
--- the book that a maker left is the rule's own
-pub made-own : (file lent : List ℕ) {count : ℕ} → makeBook file lent ≡ given count → IsBook (ruleOf file) (madeBook file lent)
-unfolding bookAfter
-made-own file lent e =
-    let R : Rule = ruleOf file in
-    let rule = accepted-is-rule file (made-says file lent e .accepted) in
-    rw (e, bookAfter) (made-is-book R rule (never-used-up R rule) (drop (R .states + 1) lent))
 
 -- the end of a reading over the store is the end of the run over its levels
 place-same : (depth taken : ℕ) (store : List Level)
@@ -115,9 +107,9 @@ pub demand-3-calls : (file lent : List ℕ) (store : List Level) (ceiling : ℕ)
     → EndsAsFull file lent store ceiling events j
 demand-3-calls file lent store ceiling events made all judged =
     let book : List ℕ = madeBook file lent in
-    let m = made-says file lent made in
+    let m = maker-gave file lent made in
     let long : ruleOf file .states + 1 ≤ length book = omega (arith, made-length file lent made, m .longEnough) in
-    let alike = demand-3 (accepted-is-rule file (m .accepted)) (made-own file lent made) (length store) ceiling events all judged in
+    let alike = demand-3 (accepted-is-rule file (m .accepted)) (maker-writes file lent made) (length store) ceiling events all judged in
     let one = fed-is-run file book store ceiling events (m .accepted) long in
     record {
       reads = record {
@@ -133,5 +125,5 @@ pub demand-3-by-calls : (file lent zeros : List ℕ) (store : List Level) (ceili
     → makeBook file lent ≡ given count → ruleOf file .states + 1 ≤ length zeros → Zeros zeros
     → ReadsTo file zeros store ceiling events (ruleOf file) j → EndsAsFull file lent store ceiling events j
 demand-3-by-calls file lent zeros store ceiling events made long empty reads =
-    let full = full-by-calls file zeros store ceiling events (made-says file lent made .accepted) long empty reads in
+    let full = full-by-calls file zeros store ceiling events (maker-gave file lent made .accepted) long empty reads in
     demand-3-calls file lent store ceiling events made (full .0) (full .1)

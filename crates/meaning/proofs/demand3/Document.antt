@@ -17,7 +17,7 @@ use Rattle.meaning.specs.Skipping.{Zeros}
 use Rattle.meaning.specs.PassedOver.{PassedOverPart}
 use Rattle.meaning.specs.Calls.{Judged, largestCeiling, endOfRun, finishFed, readWith, wholeDocument, ReadsTo}
 use Rattle.meaning.proofs.laws.Answered.{giving-given, giving-passes}
-use Rattle.meaning.proofs.stores.Whole.{fedFresh, whole-made, made-says, made-length}
+use Rattle.meaning.proofs.stores.Whole.{fedFresh, whole-made, maker-gave, made-length}
 use Rattle.meaning.proofs.demand3.Demand3Calls.{demand-3-calls, demand-3-by-calls}
 use Rattle.meaning.proofs.demand3.ExchangeCalls.{exchange-calls}
 
@@ -59,7 +59,7 @@ module _ (file lent : List ℕ) (store : List Level) {count : ℕ} (made : makeB
       → wholeDocument file lent store (xs ++ (ys ++ zs)) .answer ≡ given j
       → wholeDocument file lent store (xs ++ (ys′ ++ zs)) .answer ≡ given j
   exchange-document xs ys ys′ zs {j} part nested′ limit answered =
-      let m = made-says file lent made in
+      let m = maker-gave file lent made in
       let long : ruleOf file .states + 1 ≤ length (madeBook file lent) = omega (arith, made-length file lent made, m .longEnough) in
       document-reads (xs ++ (ys′ ++ zs)) j .1
       (exchange-calls file (madeBook file lent) store largestCeiling (m .accepted) long xs ys ys′ zs part nested′ limit

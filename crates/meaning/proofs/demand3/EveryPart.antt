@@ -21,9 +21,10 @@ use Rattle.meaning.specs.Calls.{Judged, feedCall, endOfRun, ReadsTo}
 use Rattle.meaning.specs.Skipping.{Zeros, skipRun}
 use Rattle.meaning.proofs.laws.FeedLaws.{feed-split}
 use Rattle.meaning.proofs.rulefile.Accepted.{accepted-is-rule}
-use Rattle.meaning.proofs.stores.Whole.{made-says, made-length}
+use Rattle.meaning.proofs.skipbook.BookMade.{maker-writes}
+use Rattle.meaning.proofs.stores.Whole.{maker-gave, made-length}
 use Rattle.meaning.proofs.demand3.Demand3.{Agrees, skipping-agrees}
-use Rattle.meaning.proofs.demand3.Demand3Calls.{made-own, fed-is-run, full-by-calls}
+use Rattle.meaning.proofs.demand3.Demand3Calls.{fed-is-run, full-by-calls}
 
 -- ---- a first part
 
@@ -101,10 +102,10 @@ module _ (file lent : List ℕ) (store : List Level) (ceiling : ℕ) (events : L
   pub demand-3-so-far : (i : ℕ) → SoFar file lent store ceiling (take i events)
   demand-3-so-far i =
       let book : List ℕ = madeBook file lent in
-      let m = made-says file lent made in
+      let m = maker-gave file lent made in
       let long : ruleOf file .states + 1 ≤ length book = omega (arith, made-length file lent made, m .longEnough) in
       let agrees =
-      agrees-so-far (accepted-is-rule file (m .accepted)) (made-own file lent made) (length store) ceiling events all i in
+      agrees-so-far (accepted-is-rule file (m .accepted)) (maker-writes file lent made) (length store) ceiling events all i in
       let one = fed-is-run file book store ceiling (take i events) (m .accepted) long in
       record {
         takesAll = one .ended ∙ agrees .takesAll;
@@ -137,4 +138,4 @@ pub demand-3-every-part-by-calls : (file lent zeros : List ℕ) (store : List Le
     → (i : ℕ) → SoFar file lent store ceiling (take i events)
 demand-3-every-part-by-calls file lent zeros store ceiling events made long empty reads =
     demand-3-so-far file lent store ceiling events made
-    (full-by-calls file zeros store ceiling events (made-says file lent made .accepted) long empty reads .0)
+    (full-by-calls file zeros store ceiling events (maker-gave file lent made .accepted) long empty reads .0)

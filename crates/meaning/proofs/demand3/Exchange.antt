@@ -13,7 +13,7 @@ use Rattle.meaning.specs.declared.Level.{Level}
 use Rattle.meaning.specs.Answers.{given, _≤?_, _<?_}
 use Rattle.meaning.specs.RuleFile.{Rule}
 use Rattle.meaning.specs.FullReading.{Event, opens, closes, letter, eventOf, mostEvents, letterTable, startTable, treeTable, freshRun}
-use Rattle.meaning.specs.FullReading.{Turn, stays, looked, opened, fullTurn, knownEvent}
+use Rattle.meaning.specs.FullReading.{Turn, stays, looked, newLevel, fullTurn, knownEvent}
 use Rattle.meaning.specs.FullReading.{Run, innermost, outer, runAfter, freshReading, Went, feedBy}
 use Rattle.meaning.specs.Hedges.{nestedOn, nestedFrom, knownEvents, wellNested}
 use Rattle.meaning.specs.Skipping.{held, settled, passed, endsLevel, settledTurn, skipTurn, skipEvent, skipStep, skipFrom, skipRun}
@@ -95,7 +95,7 @@ module _ (R : Rule) (book : List ℕ) (room ceiling : ℕ) (r : Reading) (top : 
 
   full-same : (v : Event)
       → Follows Both (fullTurn R room ceiling r top v) (fullTurn R room ceiling (atPlace t r) (openedAt o top) v)
-  unfolding fullTurn looked opened runAfter
+  unfolding fullTurn looked newLevel runAfter
   full-same (letter a) =
       refuse-each 9 _ _ _ _ (λ free. free)
       λ free. look-each letterTable _ _ _ _ refl λ q leads. bothGive (further (r .taken) t aboves)

@@ -17,6 +17,7 @@ use Rattle.meaning.proofs.laws.Answered.{refuse-given, refuse-passes, g
 use Rattle.meaning.proofs.rulefile.Accepted.{accepted-rule, accepted-is-rule}
 use Rattle.meaning.proofs.laws.Truths.{implied, implies}
 use Rattle.meaning.proofs.laws.Bools.{no-below-any, all-below, below-all, listed-length, listed-at}
+use Rattle.meaning.proofs.skipbook.BookLong.{long-passes, long-given}
 use Rattle.meaning.proofs.skipbook.Marks.{listed-each, marked-below}
 use Rattle.meaning.proofs.skipbook.Rounds.{marks-are-reach, never-used-up}
 use Rattle.meaning.proofs.skipbook.Reaching.{reach-below}
@@ -107,9 +108,9 @@ pub maker-writes : (file book : List ℕ) {count : ℕ} → makeBook file book �
 unfolding makeBook bookAfter
 maker-writes file book e =
     let accepted = giving-given (checkRule file) _ e in
-    let room = refuse-given 6 0 _ _ (accepted .2) in
-    let rounds = refuse-given 15 0 _ _ (room .1) in
     let R : Rule = accepted .0 in
+    let room = long-given R book _ (accepted .2) in
+    let rounds = refuse-given 15 0 _ _ (room .1) in
     subst (λ (S : Rule). IsBook S (bookAfter (makeBook file book) S book)) (sym (accepted-rule file (accepted .1)))
     (rw (e, bookAfter) (made-is-book R (accepted-is-rule file (accepted .1)) (rounds .0) (drop (R .states + 1) book)))
 
@@ -118,5 +119,5 @@ pub always-made : (file book : List ℕ) {R : Rule} → checkRule file ≡ given
     → makeBook file book ≡ given (ones (wordOf (stillMarks R)))
 unfolding makeBook
 always-made file book {R} e room =
-    giving-passes _ e ∙ refuse-passes 6 0 _ (le-ltb (length book) (R .states + 1) room)
+    giving-passes _ e ∙ long-passes R book _ room
     ∙ refuse-passes 15 0 _ (never-used-up R (accepted-is-rule file e))

@@ -19,7 +19,8 @@ use Rattle.meaning.specs.Calls.{Stored, topOf, storeStep, notReading, re
 use Rattle.meaning.proofs.laws.Truths.{by-cases}
 use Rattle.meaning.proofs.laws.FeedKeeps.{feed-alike}
 use Rattle.meaning.proofs.rulefile.Accepted.{accepted-is-rule}
-use Rattle.meaning.proofs.stores.StillReading.{IsReading, is-reading, reading-is, above-in, still-reading}
+use Rattle.meaning.proofs.skipbook.BookLong.{long-passes}
+use Rattle.meaning.proofs.stores.KeptReading.{IsReading, is-reading, reading-is, above-in, event-keeps-reading}
 use Rattle.meaning.proofs.stores.ReadingCheck.{check-says, feed-checked, feed-unchecked}
 use Rattle.meaning.proofs.stores.ZeroBook.{zero-bit, none-still}
 
@@ -128,7 +129,13 @@ module _ (file book book′ : List ℕ) (r : Reading) (store : List Level) {R : 
   check-alike : readingCheck file book r store ≡ readingCheck file book′ r store
   unfolding readingCheck _giving_
   check-alike =
-      rw (accepted, _giving_, le-ltb _ _ long, le-ltb _ _ long′, not-reading-alike (accepted-is-rule file accepted) same r store)
+      rw (
+        accepted,
+        _giving_,
+        long-passes R book _ long,
+        long-passes R book′ _ long′,
+        not-reading-alike (accepted-is-rule file accepted) same r store,
+      )
 
   pub books-finish-alike : finishCall file book r store ≡ finishCall file book′ r store
   unfolding finishCall
@@ -147,7 +154,7 @@ module _ (file book book′ : List ℕ) (r : Reading) (store : List Level) {R : 
       let checked : readingCheck file book r store ≡ given R = e ∙ ap given one in
       feed-checked file book r store ceiling events checked
       ∙ sym (feed-alike (storeStep R book ceiling) (storeStep R book′ ceiling)
-      (λ s. notReading R book (s .reading) (s .store) ≡ false) (still-reading rule book ceiling) (step-alike rule same ceiling)
+      (λ s. notReading R book (s .reading) (s .store) ≡ false) (event-keeps-reading rule book ceiling) (step-alike rule same ceiling)
       (record { reading = r; store = store }) events (check-says file book r store checked .isReading))
       ∙ sym (feed-checked file book′ r store ceiling events (sym check-alike ∙ checked))
 

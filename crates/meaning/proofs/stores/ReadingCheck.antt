@@ -5,7 +5,6 @@ use mathlib.Core.Bool.{false}
 use mathlib.Core.List.{List}
 use Prim.Native.Nat.{ℕ, _+_, _≤_}
 use lib.ListN.{length}
-use borrow.Author.Tests.{ltb-false, le-ltb}
 use Rattle.meaning.specs.declared.Reading.{Reading}
 use Rattle.meaning.specs.declared.Level.{Level}
 use Rattle.meaning.specs.Answers.{given, refused}
@@ -13,7 +12,8 @@ use Rattle.meaning.specs.RuleFile.{Rule, checkRule}
 use Rattle.meaning.specs.FullReading.{feedBy}
 use Rattle.meaning.specs.Calls.{Stored, storeStep, notReading, readingCheck, fedFrom, feedCall, topOf, endOf, finishCall}
 use Rattle.meaning.proofs.rulefile.Accepted.{accepted-is-rule}
-use Rattle.meaning.proofs.stores.StillReading.{fed-reading}
+use Rattle.meaning.proofs.skipbook.BookLong.{long-passes, long-given}
+use Rattle.meaning.proofs.stores.KeptReading.{feeding-keeps-reading}
 use Rattle.meaning.proofs.laws.Answered.{refuse-given, refuse-passes, giving-given, giving-passes, giving-stops}
 
 pub record Checked (file book : List ℕ) (r : Reading) (store : List Level) (R : Rule) : Type 0 where
@@ -26,19 +26,19 @@ module _ (file book : List ℕ) (r : Reading) (store : List Level) where
   unfolding readingCheck
   check-says {R} e =
       let g = giving-given (checkRule file) _ e in
-      let six = refuse-given 6 0 _ _ (g .2) in
+      let six = long-given (g .0) book _ (g .2) in
       let thirteen = refuse-given 13 0 _ _ (six .1) in
       let same : g .0 ≡ R = cc (thirteen .1) in
       record {
         accepted = g .1 ∙ ap given same;
-        longEnough = rw (← same) (ltb-false _ _ (six .0));
+        longEnough = rw (← same) (six .0);
         isReading = rw (← same) (thirteen .0);
       }
 
   pub check-passes : {R : Rule} → Checked file book r store R → readingCheck file book r store ≡ given R
   unfolding readingCheck
   check-passes {R} c =
-      giving-passes _ (c .accepted) ∙ (refuse-passes 6 0 _ (le-ltb _ _ (c .longEnough)) ∙ refuse-passes 13 0 _ (c .isReading))
+      giving-passes _ (c .accepted) ∙ (long-passes R book _ (c .longEnough) ∙ refuse-passes 13 0 _ (c .isReading))
 
   -- ---- feeding after the check
 
@@ -75,5 +75,5 @@ fed-checked file book ceiling s es {R} e =
     (record {
       accepted = c .accepted;
       longEnough = c .longEnough;
-      isReading = fed-reading (accepted-is-rule file (c .accepted)) book ceiling s es (c .isReading);
+      isReading = feeding-keeps-reading (accepted-is-rule file (c .accepted)) book ceiling s es (c .isReading);
     })

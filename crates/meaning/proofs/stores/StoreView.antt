@@ -14,7 +14,7 @@ use Rattle.meaning.specs.declared.Reading.{Reading}
 use Rattle.meaning.specs.declared.Level.{Level}
 use Rattle.meaning.specs.Answers.{Answer, given, refused, _giving_}
 use Rattle.meaning.specs.RuleFile.{Rule}
-use Rattle.meaning.specs.FullReading.{Event, opens, closes, letter, eventOf, Turn, Run, Went, looked, opened, fullTurn, blank, innermost, outer, runAfter, feedBy}
+use Rattle.meaning.specs.FullReading.{Event, opens, closes, letter, eventOf, Turn, Run, Went, looked, newLevel, fullTurn, blank, innermost, outer, runAfter, feedBy}
 use Rattle.meaning.specs.Skipping.{held, settled, passed, endsLevel, settledTurn, skipTurn, skipEvent, skipStep}
 use Rattle.meaning.specs.Calls.{Stored, topOf, storedAfter, storeStep}
 use Rattle.meaning.proofs.laws.Answered.{if-false, refuse-stops, giving-given}
@@ -133,7 +133,7 @@ module _ (R : Rule) (book : List ℕ) (ceiling : ℕ) where
   turn-viewed r store (passes e skip is h) = refl
   turn-viewed r store (endsHeld is z) = cc (levels-less (r .depth) store)
   turn-viewed r store (takesLetter a q isNot known m) = refl
-  turn-viewed r store (storesOpen q isNot fits m) = cc (levels-more (r .depth) store (opened r) fits)
+  turn-viewed r store (storesOpen q isNot fits m) = cc (levels-more (r .depth) store (newLevel r) fits)
   turn-viewed r store (endsLooked q isNot z deep m) = cc (levels-less (r .depth) store)
 
   -- an event keeps the length of the store, and the depth within it
@@ -199,7 +199,7 @@ pub record StoredOpen (s : Stored) (e : ℕ) (t : Stored) : Type 0 where
   pub opening : eventOf e ≡ opens
   pub fits : s .reading .depth < length (s .store)
   pub deeper : t .reading .depth ≡ s .reading .depth + 1
-  pub own : t .store ≡ set (s .store) (s .reading .depth) (opened (s .reading))
+  pub own : t .store ≡ set (s .store) (s .reading .depth) (newLevel (s .reading))
 
 module _ (R : Rule) (book : List ℕ) (ceiling : ℕ) where
   turn-kept : (r : Reading) (store : List Level) (e : ℕ) {event : Event} {turn : Turn} → eventOf e ≡ event
@@ -228,7 +228,7 @@ module _ (R : Rule) (book : List ℕ) (ceiling : ℕ) where
     where
       go : (t .store ≡ s .store) ⊎ StoredOpen s e t → getD (t .store) i d ≡ getD (s .store) i d
       go (inl same) = rw same
-      go (inr o) = rw (o .own) (getD-set-other (s .store) (s .reading .depth) i (opened (s .reading)) d other)
+      go (inr o) = rw (o .own) (getD-set-other (s .store) (s .reading .depth) i (newLevel (s .reading)) d other)
 
   step-past : (i : ℕ) (s t : Stored) (e : ℕ) → t .reading .depth ≤ i → storeStep R book ceiling s e ≡ given t
       → drop i (t .store) ≡ drop i (s .store)
@@ -237,7 +237,7 @@ module _ (R : Rule) (book : List ℕ) (ceiling : ℕ) where
       go : (t .store ≡ s .store) ⊎ StoredOpen s e t → drop i (t .store) ≡ drop i (s .store)
       go (inl same) = rw same
       go (inr o) =
-          rw (o .own) (drop-set-lt i (s .store) (s .reading .depth) (opened (s .reading)) (omega (arith, o .deeper)))
+          rw (o .own) (drop-set-lt i (s .store) (s .reading .depth) (newLevel (s .reading)) (omega (arith, o .deeper)))
 
   -- the records at the greatest depth reached, and past it, are as they were
   pub store-past : (i : ℕ) (s : Stored) (es : List ℕ)

@@ -13,15 +13,11 @@ use Rattle.meaning.specs.Answers.{Answer, given, refused, refuse_at_when
 use Rattle.meaning.specs.RuleFile.{Rule, Move, noMove, to}
 use Rattle.meaning.specs.FullReading.{Event, opens, closes, letter, eventOf, looked, Table, look, Turn, fullTurn, knownEvent, Went, goOn, feedBy}
 use Rattle.meaning.specs.Skipping.{passed, endsLevel, settledTurn, skipTurn, skipEvent}
-use Rattle.meaning.specs.Calls.{Stored, storedAfter, storeStep, readingCheck, feedCall}
+use Rattle.meaning.specs.Calls.{eventsTaken, StoppedAt, TookFirst, Stored, storedAfter, storeStep, readingCheck, feedCall}
 use Rattle.meaning.proofs.laws.FeedLaws.{feed-taken}
 use Rattle.meaning.proofs.stores.ReadingCheck.{feed-checked, feed-unchecked}
 use Rattle.meaning.proofs.stores.StoreView.{step-turned}
 use Rattle.meaning.proofs.stores.Turns.{Turned, passes, endsHeld, takesLetter, storesOpen, endsLooked}
-
--- how many events a feed took, from a reading on
-unfoldable pub eventsTaken : Reading → Went Stored → ℕ
-eventsTaken before w = w .last .reading .taken - before .taken
 
 -- ---- any step that counts
 
@@ -155,33 +151,6 @@ step-refused R book ceiling s e is = its-place (giving-here _ (event-here R book
 
 -- ---- the calls
 
--- The event after the n that were taken is there, and it was refused, with that number and at its place.
-pub record StoppedAt (R : Rule) (book : List ℕ) (ceiling : ℕ) (r : Reading) (events : List ℕ) (w : Went Stored) (n number place : ℕ)
-    : Type 0 where
-  pub more : n < length events
-  pub atPlace : place ≡ r .taken + n
-  pub refuses : storeStep R book ceiling (w .last) (getD events n 0) ≡ refused number place
-
--- A feed w of these events took the first n of them, whatever was handed in.
-pub record TookFirst (file book : List ℕ) (ceiling : ℕ) (r : Reading) (store : List Level) (events : List ℕ) (w : Went Stored) (n : ℕ)
-    : Type 0 where
-  -- no more than there are, and the events taken grow by so many
-  pub within : n ≤ length events
-  pub counted : w .last .reading .taken ≡ r .taken + n
-  -- these alone lead to the same place
-  pub sameLast : feedCall file book ceiling r store (take n events) .last ≡ w .last
-  -- all taken: all of them
-  pub allTaken : w .ended ≡ given tt → n ≡ length events
-  -- where the check passed, all of these are taken, and a refusal is of the event after them
-  pub theseTaken : {R : Rule} → readingCheck file book r store ≡ given R
-      → feedCall file book ceiling r store (take n events) .ended ≡ given tt
-  pub stopped : {R : Rule} {number place : ℕ} → readingCheck file book r store ≡ given R → w .ended ≡ refused number place
-      → StoppedAt R book ceiling r events w n number place
-  -- where the check refused, none is taken and nothing changes
-  pub noneTaken : {number place : ℕ} → readingCheck file book r store ≡ refused number place → n ≡ 0
-  pub unchanged : {number place : ℕ} → readingCheck file book r store ≡ refused number place
-      → w .last ≡ record { reading = r; store = store }
-
 module _ (file book : List ℕ) (ceiling : ℕ) (r : Reading) (store : List Level) (events : List ℕ) where
   took-checked : {R : Rule} → readingCheck file book r store ≡ given R
       → (n : ℕ) × TookFirst file book ceiling r store events (feedCall file book ceiling r store events) n
@@ -236,7 +205,6 @@ module _ (file book : List ℕ) (ceiling : ℕ) (r : Reading) (store : List Leve
   -- Feeding took the first events, as many as the events taken have grown by, on every input.
   pub feeding-took : TookFirst file book ceiling r store events (feedCall file book ceiling r store events)
       (eventsTaken r (feedCall file book ceiling r store events))
-  unfolding eventsTaken
   feeding-took =
       let t = took-some (readingCheck file book r store) refl in
       let w : Went Stored = feedCall file book ceiling r store events in

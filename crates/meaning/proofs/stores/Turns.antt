@@ -10,7 +10,7 @@ use Rattle.meaning.specs.declared.Reading.{Reading}
 use Rattle.meaning.specs.declared.Level.{Level}
 use Rattle.meaning.specs.Answers.{Answer, given, refused, refuse_at_when_otherwise_, _<?_, _≤?_, _=?_, if_then_else_}
 use Rattle.meaning.specs.RuleFile.{Rule, Move, noMove, to, letterMove, treeMove, treeStartMove}
-use Rattle.meaning.specs.FullReading.{Event, opens, closes, letter, eventOf, looked, opened, Table, look, Turn, stays, stores, ends, fullTurn, knownEvent, mostEvents}
+use Rattle.meaning.specs.FullReading.{Event, opens, closes, letter, eventOf, looked, newLevel, Table, look, Turn, stays, stores, ends, fullTurn, knownEvent, mostEvents}
 use Rattle.meaning.specs.SkipBook.{inStill}
 use Rattle.meaning.specs.Skipping.{held, settled, passed, endsLevel, settledTurn, skipTurn, skipEvent}
 use Rattle.meaning.proofs.laws.Answered.{or-false}
@@ -62,7 +62,7 @@ pub data Turned (R : Rule) (book : List ℕ) (room : ℕ) (r : Reading) (top : L
       → Turned R book room r top (letter a) (stays (looked r q (r .depth)))
   -- a look at the tree start, with a record stored
   storesOpen : (q : ℕ) → settled book r top ≡ false → r .depth < room → treeStartMove R ≡ to q
-      → Turned R book room r top opens (stores (opened r) (looked r q (r .depth + 1)))
+      → Turned R book room r top opens (stores (newLevel r) (looked r q (r .depth + 1)))
   -- a look in the tree moves
   endsLooked : (q : ℕ) → held book r top ≡ false → (settled book r top ≡ true → r .skip ≡ 0) → 0 < r .depth
       → treeMove R (top .above) (r .state) ≡ to q

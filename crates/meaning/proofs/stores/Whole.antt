@@ -16,9 +16,10 @@ use Rattle.meaning.specs.SkipBook.{wordOf, holdMarks, bookOf, makeBook, 
 use Rattle.meaning.specs.Calls.{Stored, freshCall, storeStep, topOf, endOf, readingCheck, feedCall, finishCall, finishFed, largestCeiling, readWith, wholeFrom, wholeDocument}
 use Rattle.meaning.proofs.rulefile.Accepted.{accepted-rule, accepted-is-rule}
 use Rattle.meaning.proofs.laws.Answered.{giving-given, giving-passes, giving-stops, refuse-given}
-use Rattle.meaning.proofs.laws.Bools.{listed-length}
+use Rattle.meaning.proofs.skipbook.BookLong.{long-given}
+use Rattle.meaning.proofs.skipbook.BookMade.{book-length}
 use Rattle.meaning.proofs.stores.ReadingCheck.{check-passes, feed-checked, finish-checked, fed-checked}
-use Rattle.meaning.proofs.stores.StillReading.{IsReading, reading-is}
+use Rattle.meaning.proofs.stores.KeptReading.{IsReading, reading-is}
 
 -- ---- the calls in turn
 
@@ -90,37 +91,33 @@ pub record Made (file book : List ℕ) : Type 0 where
   pub accepted : checkRule file ≡ given (ruleOf file)
   pub longEnough : ruleOf file .states + 1 ≤ length book
 
-pub made-says : (file book : List ℕ) {count : ℕ} → makeBook file book ≡ given count → Made file book
+pub maker-gave : (file book : List ℕ) {count : ℕ} → makeBook file book ≡ given count → Made file book
 unfolding makeBook
-made-says file book e =
+maker-gave file book e =
     let g = giving-given (checkRule file) _ e in
     let same = accepted-rule file (g .1) in
-    let six = refuse-given 6 0 _ _ (g .2) in
-    record { accepted = rw same (g .1); longEnough = rw same (ltb-false _ _ (six .0)) }
-
-pub book-length : (R : Rule) → length (bookOf R) ≡ R .states + 1
-unfolding bookOf
-book-length R = omega (arith, listed-length (R .states) (λ u. wordOf (holdMarks R u)))
+    let six = long-given (g .0) book _ (g .2) in
+    record { accepted = rw same (g .1); longEnough = rw same (six .0) }
 
 -- the made book is as long as the one that was lent
 pub made-length : (file book : List ℕ) {count : ℕ} → makeBook file book ≡ given count
     → length (madeBook file book) ≡ length book
 unfolding bookAfter
 made-length file book e =
-    let m = made-says file book e in
+    let m = maker-gave file book e in
     rw (e, bookAfter) (simp (length-append, length-drop, book-length) (omega (arith, m .longEnough)))
 
 -- the fresh reading passes the check with the made book, over any store
 pub made-checked : (file book : List ℕ) (store : List Level) {count : ℕ} → makeBook file book ≡ given count
     → readingCheck file (madeBook file book) (freshReading (ruleOf file)) store ≡ given (ruleOf file)
 made-checked file book store e =
-    let m = made-says file book e in
+    let m = maker-gave file book e in
     fresh-checked file (madeBook file book) store (m .accepted) (omega (arith, made-length file book e, m .longEnough))
 
 pub made-fresh : (file book : List ℕ) {count : ℕ} → makeBook file book ≡ given count
     → freshCall file ≡ given (freshReading (ruleOf file))
 unfolding freshCall
-made-fresh file book e = giving-passes _ (made-says file book e .accepted)
+made-fresh file book e = giving-passes _ (maker-gave file book e .accepted)
 
 module _ (file book : List ℕ) (store : List Level) (events : List ℕ) {count : ℕ} (made : makeBook file book ≡ given count) where
   -- feeding goes by the steps

@@ -3,7 +3,7 @@
 use borrow.Author.Needs.{needs}
 use Rattle.reading.specs.Checks.{begunSays}
 use Rattle.meaning.specs.Calls.{refusalSays}
-use Rattle.host.specs.Numbers.{listed}
+use Rattle.host.specs.Numbers.{answerNumbers}
 use Rattle.host.proofs.answers.lay_begun.Statement.{statement}
 use Rattle.host.proofs.answers.lay_begun.Tie as tie
 
@@ -23,14 +23,14 @@ same-length : tie.Need-same-length
 same-length c = search needs
 
 returns : tie.Need-returns
-unfolding listed begunSays
+unfolding answerNumbers begunSays
 returns c = rw (c .before .before .before .before .before .begun .given .1) (c .before .before .lay-reading .ensures)
 
 same-length-2 : tie.Need-same-length-2
 same-length-2 c = search needs
 
 returns-2 : tie.Need-returns-2
-unfolding listed begunSays refusalSays
+unfolding answerNumbers begunSays refusalSays
 returns-2 c = rw (c .before .before .before .before .before .begun2 .given .1) (c .before .before .lay-refusal .ensures)
 
 pub lay-begun-spec : {M : Type 1} → statement M

@@ -2,7 +2,7 @@
 -- Assumes nothing.
 use borrow.Author.Needs.{needs}
 use Rattle.meaning.specs.Calls.{endSays, refusalSays}
-use Rattle.host.specs.Numbers.{listed}
+use Rattle.host.specs.Numbers.{answerNumbers}
 use Rattle.host.proofs.answers.lay_end.Statement.{statement}
 use Rattle.host.proofs.answers.lay_end.Tie as tie
 
@@ -22,14 +22,14 @@ same-length : tie.Need-same-length
 same-length c = search needs
 
 returns : tie.Need-returns
-unfolding listed endSays
+unfolding answerNumbers endSays
 returns c = rw (c .before .before .before .before .before .end .given .1) (c .before .before .lay-judged .ensures)
 
 same-length-2 : tie.Need-same-length-2
 same-length-2 c = search needs
 
 returns-2 : tie.Need-returns-2
-unfolding listed endSays refusalSays
+unfolding answerNumbers endSays refusalSays
 returns-2 c = rw (c .before .before .before .before .before .end2 .given .1) (c .before .before .lay-refusal .ensures)
 
 pub lay-end-spec : {M : Type 1} → statement M

@@ -3,7 +3,7 @@
 use borrow.Author.Needs.{needs}
 use Rattle.book.specs.Says.{madeSays}
 use Rattle.meaning.specs.Calls.{refusalSays}
-use Rattle.host.specs.Numbers.{listed}
+use Rattle.host.specs.Numbers.{answerNumbers}
 use Rattle.host.proofs.answers.lay_made.Statement.{statement}
 use Rattle.host.proofs.answers.lay_made.Tie as tie
 
@@ -26,14 +26,14 @@ same-length : tie.Need-same-length
 same-length c = search needs
 
 returns : tie.Need-returns
-unfolding listed madeSays
+unfolding answerNumbers madeSays
 returns c = rw (c .before .before .before .before .before .made .given .1) (c .before .before .lay-count .ensures)
 
 same-length-2 : tie.Need-same-length-2
 same-length-2 c = search needs
 
 returns-2 : tie.Need-returns-2
-unfolding listed madeSays refusalSays
+unfolding answerNumbers madeSays refusalSays
 returns-2 c = rw (c .before .before .before .before .before .made2 .given .1) (c .before .before .lay-refusal .ensures)
 
 pub lay-made-spec : {M : Type 1} → statement M

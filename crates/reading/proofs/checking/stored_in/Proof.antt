@@ -41,7 +41,7 @@ use Rattle.meaning.specs.FullReading.{blank}
 use Rattle.meaning.specs.RuleFile.{isState}
 use Rattle.meaning.specs.SkipBook.{allBelow}
 use Rattle.reading.specs.Checks.{abovesIn}
-use Rattle.reading.proofs.Passed.{still-in-by}
+use Rattle.reading.proofs.Passed.{inside-with-by}
 use Rattle.levels.proofs.Values.{storable}
 use Rattle.levels.proofs.Locals.{Blocks, placed, lying, dying, freed, cleared}
 use Rattle.levels.proofs.Lines.{var, lets, sets-last, lands-in, lands-over, begins}
@@ -57,10 +57,10 @@ use Rattle.levels.proofs.level_at as level-at
 use Rattle.levels.proofs.level_at.Symbol as level-at-def
 use Rattle.levels.proofs.level_at.Symbol.{name as #level-at}
 use Rattle.levels.proofs.level_at.Met as level-at-thm
-use Rattle.reading.proofs.checking.still_in as still-in
-use Rattle.reading.proofs.checking.still_in.Symbol as still-in-def
-use Rattle.reading.proofs.checking.still_in.Symbol.{name as #still-in}
-use Rattle.reading.proofs.checking.still_in.Met as still-in-thm
+use Rattle.reading.proofs.checking.inside_with as inside-with
+use Rattle.reading.proofs.checking.inside_with.Symbol as inside-with-def
+use Rattle.reading.proofs.checking.inside_with.Symbol.{name as #inside-with}
+use Rattle.reading.proofs.checking.inside_with.Met as inside-with-thm
 use Rattle.reading.proofs.checking.stored_in.Key.{name as #stored-in}
 use Rattle.reading.proofs.checking.stored_in as stored-in
 use Rattle.reading.proofs.checking.stored_in.Statement as stated
@@ -116,7 +116,7 @@ module _ {M : Type 1} (𝓤 : URA M) (H : Heap 𝓤) (A : Atoms 𝓤) (W : Given
   nearer-ends : WellFounded Nearer
   nearer-ends = InvImage·wf (λ (i : Upto). depth - i .0) (Nat·lt-wfRel .wf)
 
-  module _ (look-known : Meets 𝓤 H A level-at.signature (𝓣 .C #level-at) (level-at.spec 𝓤 H A at-mem run)) (still-known : Meets 𝓤 H A still-in.signature (𝓣 .C #still-in) (still-in.spec 𝓤 H A at-mem run))
+  module _ (look-known : Meets 𝓤 H A level-at.signature (𝓣 .C #level-at) (level-at.spec 𝓤 H A at-mem run)) (still-known : Meets 𝓤 H A inside-with.signature (𝓣 .C #inside-with) (inside-with.spec 𝓤 H A at-mem run))
       (p₀ : Is (ShrSlice (named 0) (κs .0) record-type) (a .0) (slice-vals (a .0))) (p₁ : depth < 2 ^ 64) (p₂ : states < 2 ^ 8) where
     module _ (bs : Blocks (code.function .locals)) where
       abbrev E : Env 𝓤 H
@@ -148,7 +148,7 @@ module _ {M : Type 1} (𝓤 : URA M) (H : Heap 𝓤) (A : Atoms 𝓤) (W : Given
             lets ! (bin ! (var ! refl) (var ! refl) tt) refl (tt, tt) $ tests ! (var ! refl)
             (λ held. let less = ltb→lt (i .0) depth held in
             calls-by ! 𝓣 (9 ∷ []) refl (looks W at-mem run 𝓣 store small look-known (shown W (κs .0) (qs .0) (a .0 .name))) (and-then ! (var ! refl) (and-then ! (var ! refl) (no-more !))) (λ fits. lands-in ! refl (storable level-value W (getD store (i .0) blank) fits) $
-            calls-by ! 𝓣 [] refl (still-in-by W at-mem run 𝓣 still-known (abovesIn states (i .0) store) (getD store (i .0) blank) fits p₂) (and-then ! (var ! refl) (and-then ! (var ! refl) (and-then ! (var ! refl) (no-more !)))) (λ _. lands-over ! refl (tt, tt) $
+            calls-by ! 𝓣 [] refl (inside-with-by W at-mem run 𝓣 still-known (abovesIn states (i .0) store) (getD store (i .0) blank) fits p₂) (and-then ! (var ! refl) (and-then ! (var ! refl) (and-then ! (var ! refl) (no-more !)))) (λ _. lands-over ! refl (tt, tt) $
             sets-last ! (bin ! (var ! refl) (lit ! tt) (record { fits = bound less })) refl (tt, record { fits = bound less }) $
             rewrite ! 4 (λ (t : Bool). ‵ (fat fullShare tyBool (bs .1 .1 .1 .1 .0) 0 (vbool t))) (one-more states (i .0) store) refl $
             cleared W 6 E (none ∷ some _ ∷ some _ ∷ some _ ∷ some _ ∷ some _ ∷ some _ ∷ some _ ∷ []) _ $
@@ -175,5 +175,5 @@ stored-in-spec 𝓤 H 𝓜 𝓖 𝓡 =
     (all-go 𝓤 H (𝓖 .A) W ps) (spells ps) (tellss ps)
     (λ κs qs bounds a g are. via 𝓤 _ (fst∗ 𝓤 _ (emp 𝓤)) (walk 𝓤 H (𝓖 .A) W (𝓜 .mem) (𝓡 .run) (tablesOf 𝓤 H 𝓜 (tables 𝓤 H 𝓜 𝓡 code.env)) κs qs a
     (cited 𝓤 H (tripleOf 𝓤 H (𝓖 .A) level-at.signature (level-at.spec 𝓤 H (𝓖 .A) (𝓜 .mem) (𝓡 .run))) 𝓜 𝓡 code.env #level-at level-at-def.routine code.calls-levels·level-at (level-at-thm.met 𝓤 H 𝓜 𝓖 𝓡))
-    (cited 𝓤 H (tripleOf 𝓤 H (𝓖 .A) still-in.signature (still-in.spec 𝓤 H (𝓖 .A) (𝓜 .mem) (𝓡 .run))) 𝓜 𝓡 code.env #still-in still-in-def.routine code.calls-reading·checking·still-in (still-in-thm.met 𝓤 H 𝓜 𝓖 𝓡))
+    (cited 𝓤 H (tripleOf 𝓤 H (𝓖 .A) inside-with.signature (inside-with.spec 𝓤 H (𝓖 .A) (𝓜 .mem) (𝓡 .run))) 𝓜 𝓡 code.env #inside-with inside-with-def.routine code.calls-reading·checking·inside-with (inside-with-thm.met 𝓤 H 𝓜 𝓖 𝓡))
     (are .0) (are .1 .0 .1) (are .1 .1 .0 .1)))

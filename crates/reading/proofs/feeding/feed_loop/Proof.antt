@@ -40,7 +40,7 @@ use Rattle.meaning.specs.Calls.{topOf}
 use Rattle.meaning.specs.RuleFile.{ruleOf}
 use Rattle.rule.specs.declared.Rule.{Rule}
 use Rattle.turning.specs.Turns.{Ready}
-use Rattle.turning.specs.Advancing.{Goes, Gone, rest}
+use Rattle.turning.specs.Advancing.{CanGoOn, Gone, rest}
 use Rattle.turning.specs.declared.Advance.{Advance}
 use Rattle.turning.specs.declared.Going.{Going}
 use Rattle.turning.proofs.Going as Go
@@ -177,7 +177,7 @@ module _ {M : Type 1} (𝓤 : URA M) (H : Heap 𝓤) (A : Atoms 𝓤) (W : Given
       (top-known : Meets 𝓤 H A top-place.signature (𝓣 .C #top-place) (top-place.spec 𝓤 H A at-mem run)) (advance-known : Meets 𝓤 H A advance.signature (𝓣 .C #advance) (advance.spec 𝓤 H A at-mem run))
       (p₀ : Is (ShrSlice (named 0) (κs .0) u8) (a .0) (slice-vals (a .0))) (p₁ : FitsIn rule-value rule) (p₂ : Is (ShrSlice (named 1) (κs .1 .0) u64) (a .1 .1 .0) (slice-vals (a .1 .1 .0))) (p₃ : ceiling < 2 ^ 32) (p₄ : FitsIn going-value start)
       (p₅ : Is (MutSlice (named 2) (κs .1 .1 .0) record-type) (a .1 .1 .1 .1 .1 .0) (slice-vals (a .1 .1 .1 .1 .1 .0))) (p₆ : Is (ShrSlice (named 3) (κs .1 .1 .1 .0) u16) (a .1 .1 .1 .1 .1 .1 .0) (slice-vals (a .1 .1 .1 .1 .1 .1 .0)))
-      (goes : Goes file rule book ls es start) where
+      (goes : CanGoOn file rule book ls es start) where
     module _ (bs : Blocks (code.function .locals)) where
       abbrev E : Env 𝓤 H
       E = placed 𝓤 H (code.function .locals) bs
@@ -258,7 +258,7 @@ feed-loop-spec {M} 𝓤 H 𝓜 𝓖 𝓡 =
     let W = givenOf 𝓤 H 𝓜 𝓖 in
     proved 𝓤 H 𝓜 𝓖 𝓡 feed-loop.ended (feed-loop.clauses 𝓤 H (𝓖 .A) (𝓜 .mem) (𝓡 .run)) stayed code.function code.env #feed-loop (code.unfolded 𝓤 H 𝓜 𝓡)
     (all-go 𝓤 H (𝓖 .A) W ps) (spells ps) (tellss ps)
-    (λ κs qs bounds a g are. knowing 𝓤 (Goes (a .0 .now) (a .1 .0) (a .1 .1 .0 .now) (a .1 .1 .1 .1 .1 .0 .now) (a .1 .1 .1 .1 .1 .1 .0 .now) (a .1 .1 .1 .1 .0)) (λ goes. walk 𝓤 H (𝓖 .A) W (𝓜 .mem) (𝓡 .run) (tablesOf 𝓤 H 𝓜 (tables 𝓤 H 𝓜 𝓡 code.env)) κs qs a
+    (λ κs qs bounds a g are. knowing 𝓤 (CanGoOn (a .0 .now) (a .1 .0) (a .1 .1 .0 .now) (a .1 .1 .1 .1 .1 .0 .now) (a .1 .1 .1 .1 .1 .1 .0 .now) (a .1 .1 .1 .1 .0)) (λ goes. walk 𝓤 H (𝓖 .A) W (𝓜 .mem) (𝓡 .run) (tablesOf 𝓤 H 𝓜 (tables 𝓤 H 𝓜 𝓡 code.env)) κs qs a
     (cited 𝓤 H (tripleOf 𝓤 H (𝓖 .A) level-at.signature (level-at.spec 𝓤 H (𝓖 .A) (𝓜 .mem) (𝓡 .run))) 𝓜 𝓡 code.env #level-at level-at-def.routine code.calls-levels·level-at (level-at-thm.met 𝓤 H 𝓜 𝓖 𝓡))
     (cited 𝓤 H (tripleOf 𝓤 H (𝓖 .A) put-level.signature (put-level.spec 𝓤 H (𝓖 .A) (𝓜 .mem) (𝓡 .run))) 𝓜 𝓡 code.env #put-level put-level-def.routine code.calls-levels·put-level (put-level-thm.met 𝓤 H 𝓜 𝓖 𝓡))
     (cited 𝓤 H (tripleOf 𝓤 H (𝓖 .A) room.signature (room.spec 𝓤 H (𝓖 .A) (𝓜 .mem) (𝓡 .run))) 𝓜 𝓡 code.env #room room-def.routine code.calls-levels·room (room-thm.met 𝓤 H 𝓜 𝓖 𝓡))

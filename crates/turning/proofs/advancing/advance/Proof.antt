@@ -4,7 +4,7 @@ use mathlib.Core.Path.{sym, _∙_}
 use native.Mathlib.Omega.{arith}
 use denote.Ref.{now}
 use lib.Seq.{set-out}
-use Rattle.meaning.proofs.stores.StillReading.{held-deep}
+use Rattle.meaning.proofs.stores.KeptReading.{held-deep}
 use Rattle.turning.specs.Turns.{Stands}
 use Rattle.turning.specs.PassingOver.{PassesOver}
 use Rattle.turning.proofs.Turned.{book-serves, few-letters}

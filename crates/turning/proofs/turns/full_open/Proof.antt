@@ -3,7 +3,7 @@
 use borrow.Author.Needs.{needs}
 use mathlib.Core.Path.{sym, _∙_}
 use borrow.Author.Tests.{le-leb}
-use Rattle.meaning.specs.FullReading.{fullTurn, noMoveNumber, startTable, opened}
+use Rattle.meaning.specs.FullReading.{fullTurn, noMoveNumber, startTable, newLevel}
 use Rattle.meaning.proofs.laws.Answered.{refuse-stops}
 use Rattle.turning.specs.Turns.{turnSays}
 use Rattle.turning.proofs.Turned.{open-turn, look-gives, look-refuses}
@@ -36,7 +36,7 @@ looked-requires : tie.Need-looked-requires
 looked-requires c κs = search needs
 
 returns-3 : tie.Need-returns-3
-unfolding turnSays noMoveNumber opened
+unfolding turnSays noMoveNumber newLevel
 returns-3 c =
     let s = c .before .before .before .before .before .before in
     let number = c .before .before .before .before .look-refused .ensures in

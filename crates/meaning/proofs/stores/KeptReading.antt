@@ -13,7 +13,7 @@ use Rattle.meaning.specs.declared.Reading.{Reading}
 use Rattle.meaning.specs.declared.Level.{Level}
 use Rattle.meaning.specs.Answers.{given, _<?_}
 use Rattle.meaning.specs.RuleFile.{Rule, IsRule, isState}
-use Rattle.meaning.specs.FullReading.{Event, Turn, looked, opened, blank, feedBy}
+use Rattle.meaning.specs.FullReading.{Event, Turn, looked, newLevel, blank, feedBy}
 use Rattle.meaning.specs.SkipBook.{inHold}
 use Rattle.meaning.specs.Skipping.{held, settled, passed}
 use Rattle.meaning.specs.Calls.{Stored, topOf, storedAfter, storeStep, notReading}
@@ -94,13 +94,13 @@ module _ {R : Rule} (isRule : IsRule R) (book : List ℕ) where
   above-in r store i h = i .aboveIn (r .depth - 1) (omega arith)
 
   -- the record of an open holds a state, and the others still do
-  opened-in : (r : Reading) (store : List Level) → IsReading R book r store → r .depth < length store
-      → (j : ℕ) → j < r .depth + 1 → isState (R .states) (getD (set store (r .depth) (opened r)) j blank .above) ≡ true
-  unfolding opened
-  opened-in r store i fits j h =
-      below {P = λ j. isState (R .states) (getD (set store (r .depth) (opened r)) j blank .above) ≡ true} (r .depth) j (omega arith)
-      (λ j l. rw (getD-set-other store (r .depth) j (opened r) blank (omega arith)) (i .aboveIn j l))
-      (rw (getD-set-same store (r .depth) (opened r) blank fits) (i .stateIn))
+  new-level-in : (r : Reading) (store : List Level) → IsReading R book r store → r .depth < length store
+      → (j : ℕ) → j < r .depth + 1 → isState (R .states) (getD (set store (r .depth) (newLevel r)) j blank .above) ≡ true
+  unfolding newLevel
+  new-level-in r store i fits j h =
+      below {P = λ j. isState (R .states) (getD (set store (r .depth) (newLevel r)) j blank .above) ≡ true} (r .depth) j (omega arith)
+      (λ j l. rw (getD-set-other store (r .depth) j (newLevel r) blank (omega arith)) (i .aboveIn j l))
+      (rw (getD-set-same store (r .depth) (newLevel r) blank fits) (i .stateIn))
 
   turn-reading : (r : Reading) (store : List Level) {event : Event} {turn : Turn}
       → IsReading R book r store → Turned R book (length store) r (topOf r store) event turn
@@ -136,8 +136,8 @@ module _ {R : Rule} (isRule : IsRule R) (book : List ℕ) where
   turn-reading r store i (storesOpen q isNot fits m) =
       record {
         stateIn = is-state (start-below isRule m);
-        within = rw (length-set store (r .depth) (opened r)) (omega arith);
-        aboveIn = opened-in r store i fits;
+        within = rw (length-set store (r .depth) (newLevel r)) (omega arith);
+        aboveIn = new-level-in r store i fits;
         skipsSettled = λ h. true-is-not-false (i .skipsSettled h) isNot;
         nested = omega (arith, i .nested);
         looksIn = omega (arith, i .looksIn);
@@ -153,16 +153,16 @@ module _ {R : Rule} (isRule : IsRule R) (book : List ℕ) where
       }
 
   -- an event that is taken leaves a reading
-  pub still-reading : (ceiling : ℕ) (s t : Stored) (e : ℕ) → notReading R book (s .reading) (s .store) ≡ false
+  pub event-keeps-reading : (ceiling : ℕ) (s t : Stored) (e : ℕ) → notReading R book (s .reading) (s .store) ≡ false
       → storeStep R book ceiling s e ≡ given t → notReading R book (t .reading) (t .store) ≡ false
-  still-reading ceiling s t e i h =
+  event-keeps-reading ceiling s t e i h =
       let g = step-turned R book ceiling s t e h in
       let after = turn-reading (s .reading) (s .store) (is-reading R book (s .reading) (s .store) i) (g .1) in
       reading-is R book (t .reading) (t .store) (rw (g .2) at after)
 
   -- and so do any events
-  pub fed-reading : (ceiling : ℕ) (s : Stored) (es : List ℕ) → notReading R book (s .reading) (s .store) ≡ false
+  pub feeding-keeps-reading : (ceiling : ℕ) (s : Stored) (es : List ℕ) → notReading R book (s .reading) (s .store) ≡ false
       → notReading R book (feedBy (storeStep R book ceiling) s es .last .reading) (feedBy (storeStep R book ceiling) s es .last .store)
       ≡ false
-  fed-reading ceiling s es i =
-      feed-keeps (storeStep R book ceiling) (λ t. notReading R book (t .reading) (t .store) ≡ false) (still-reading ceiling) s es i
+  feeding-keeps-reading ceiling s es i =
+      feed-keeps (storeStep R book ceiling) (λ t. notReading R book (t .reading) (t .store) ≡ false) (event-keeps-reading ceiling) s es i
