@@ -1,4 +1,5 @@
-// The reading of events: what one event leads to, by value, and the calls over the lent level store.
+// The calls of a reading over the lent level store: a fresh reading, feed, finish and the whole document. What one event leads
+// to is found by value, in `turning`; here it is stored, and the calls check what they are handed.
 mod checking;
 mod document;
 mod ending;
