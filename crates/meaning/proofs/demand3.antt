@@ -2,5 +2,6 @@
 pub mod Runs
 pub mod Demand3
 pub mod Demand3Calls
+pub mod EveryPart
 pub mod Exchange
 pub mod ExchangeCalls

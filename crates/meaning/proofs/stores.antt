@@ -7,3 +7,5 @@ pub mod SplitFeeds
 pub mod OneAnswer
 pub mod Whole
 pub mod ZeroBook
+pub mod BookBits
+pub mod Took

@@ -1,6 +1,6 @@
 -- Laws of feeding over any step: what every taken event keeps is kept by feeding, and steps that a view carries over into
--- one another feed alike under that view. Both hold by induction over the events.
-use mathlib.Core.Path.{_≡_, refl}
+-- one another feed alike under that view; so do steps that agree wherever a kept property holds. By induction over the events.
+use mathlib.Core.Path.{_≡_, refl, sym, _∙_}
 use mathlib.Core.List.{List, [], _∷_}
 use Prim.Native.Nat.{ℕ, suc}
 use lib.ListN.{take}
@@ -51,3 +51,19 @@ module _ {A : Type 0} (step : A → ℕ → Answer A) where
     feed-viewed a (e ∷ es) p =
         rw (same a e p)
         (viewed-on (λ b. feedBy step b es) (λ b. feedBy other b es) a (step a e) (λ b t. feed-viewed b es (keeps a b e p t)))
+
+-- ---- two steps that agree where it matters
+
+-- an answer handed on as it is
+giving-itself : {A : Type 0} (x : Answer A) → (x giving λ b. given b) ≡ x
+unfolding _giving_
+giving-itself (given a) = refl
+giving-itself (refused number place) = refl
+
+-- steps that agree wherever what the first keeps holds feed alike from there
+pub feed-alike : {A : Type 0} (step other : A → ℕ → Answer A) (P : A → Type 0)
+    → ((a b : A) (e : ℕ) → P a → step a e ≡ given b → P b)
+    → ((a : A) (e : ℕ) → P a → other a e ≡ step a e)
+    → (a : A) (es : List ℕ) → P a → feedBy other a es ≡ feedBy step a es
+feed-alike step other P keeps same a es p =
+    feed-viewed step P keeps (λ b. b) other (λ a e p. same a e p ∙ sym (giving-itself (step a e))) a es p

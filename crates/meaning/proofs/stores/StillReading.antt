@@ -88,7 +88,7 @@ passed-settled book r store skip is = is
 
 module _ {R : Rule} (isRule : IsRule R) (book : List ℕ) where
   -- the state in the innermost record, of a reading with an open level
-  above-in : (r : Reading) (store : List Level) → IsReading R book r store → 0 < r .depth
+  pub above-in : (r : Reading) (store : List Level) → IsReading R book r store → 0 < r .depth
       → isState (R .states) (topOf r store .above) ≡ true
   unfolding topOf
   above-in r store i h = i .aboveIn (r .depth - 1) (omega arith)

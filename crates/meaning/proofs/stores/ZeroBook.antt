@@ -27,7 +27,7 @@ zeros (suc n) zero = refl
 zeros (suc n) (suc i) = zeros n i
 
 -- a word that is zero has no bit
-zero-bit : (word p : ℕ) → word ≡ 0 → bit word p ≡ false
+pub zero-bit : (word p : ℕ) → word ≡ 0 → bit word p ≡ false
 unfolding bit
 zero-bit word p e = rw (e, zero-div)
 
@@ -36,7 +36,7 @@ and-false true c e = e
 and-false false c e = refl
 
 module _ (book : List ℕ) (noWord : Zeros book) where
-  none-still : (q : ℕ) → inStill book q ≡ false
+  pub none-still : (q : ℕ) → inStill book q ≡ false
   unfolding inStill
   none-still q = zero-bit (getD book 0 0) q (noWord 0)
 
