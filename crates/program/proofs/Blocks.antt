@@ -1,17 +1,18 @@
 -- A block after the bytes so far: its events after theirs, and both readings after both.
 use mathlib.Core.Path.{_≡_, refl, sym, ap, _∙_}
 use mathlib.Core.Bool.{Bool, true, false}
-use mathlib.Core.List.{List, [], _∷_, _++_}
-use Prim.Native.Nat.{ℕ, zero, suc, _+_, _*_, _/_, _%_, _≤_}
+use mathlib.Core.List.{List, [], _∷_, _++_, append-assoc}
+use Prim.Native.Nat.{ℕ, zero, suc, _+_, _*_, _/_, _%_, _≤_, _<_}
+use native.Mathlib.Numerals.{add-one}
 use native.Mathlib.Omega.{arith}
-use lib.ListN.{length, take, drop, length-append}
-use lib.Seq.{take-at}
+use lib.ListN.{length, getD, take, drop, set, length-append}
+use lib.Seq.{take-at, take-suc, take-all, drop-cons, set-at, length-take-le}
 use Rattle.meaning.specs.CheckProgram.{eventsIn, programFed}
 use Rattle.input.specs.Decoding.{eventCount, decoded}
 use Rattle.input.proofs.Pairs.{count-all, events-length}
 use Rattle.program.specs.declared.body.Body.{Body}
 use Rattle.program.specs.Passes.{passSays, fedOn}
-use Rattle.program.specs.Bodies.{blockLength, zeroBook, Within}
+use Rattle.program.specs.Bodies.{blockLength, zeroBook, Within, Carried}
 use Rattle.program.proofs.Feeds.{fed-more}
 
 pub not-both : {b : Bool} → b ≡ true → b ≡ false → ⊥
@@ -47,6 +48,23 @@ decoded-front block events n short room counted =
     let half : n ≡ length block / 2 = counted ∙ count-all (length block) (length events) (omega arith) in
     take-at (eventsIn (take (n * 2) block)) (drop n events) n (events-length n block (omega arith))
     ∙ events-take n block (omega arith)
+
+-- ---- bytes carried into a block
+
+pub carry-more : (i : ℕ) (front block : List ℕ) → i < length front → i < length block
+    → set (take i front ++ drop i block) i (getD front i 0) ≡ take (i + 1) front ++ drop (i + 1) block
+carry-more i front block h g =
+    rw (drop-cons block i 0 g, add-one i, take-suc front i 0 h, append-assoc)
+    (set-at (take i front) (getD block i 0) (drop (suc i) block) (getD front i 0) i (length-take-le i front (omega arith)))
+
+-- what was carried is the front, where the block takes all of it
+pub carried-front : {front block after : List ℕ} {count : ℕ} → Carried front block count after → length front ≤ length block
+    → take count after ≡ front
+carried-front {front} {block} {after} {count} c fits =
+    let all : count ≡ length front = omega (arith, c .countIs) in
+    ap (take count) (c .laidIs)
+    ∙ (take-at (take count front) (drop count block) count (length-take-le count front (omega arith))
+    ∙ take-all count front (omega arith))
 
 -- ---- both readings
 

@@ -1,6 +1,6 @@
 -- The body of the record of events as the check program has it: both readings of the bytes so far, and when these bytes are all
 -- of an input's.
-use Prim.Native.Nat.{ℕ, _+_, _≤_, _<_}
+use Prim.Native.Nat.{ℕ, _+_, _≤_, _<_, min}
 use mathlib.Core.Path.{_≡_}
 use mathlib.Core.Bool.{true, false}
 use mathlib.Core.List.{List, [], _++_}
@@ -27,6 +27,11 @@ programBook file = bookAfter (makeBook file zeroBook) (ruleOf file) zeroBook
 -- the most bytes of a block
 abbrev pub blockLength : ℕ
 blockLength = 65536
+
+-- so many bytes of the front carried over into a block: all of them, or as many as it takes
+pub record Carried (front block : List ℕ) (count : ℕ) (after : List ℕ) : Type 0 where
+  pub countIs : count ≡ min (length front) (length block)
+  pub laidIs : after ≡ take count front ++ drop count block
 
 -- ---- the bytes so far
 

@@ -11,6 +11,7 @@ use crate::text::word;
 use meaning::Refusal;
 use rule::tables::HEADER;
 ghost use mathlib.Core.Path.{_≡_};
+ghost use mathlib.Core.Bool.{false};
 ghost use mathlib.Core.List.{List, [], _++_};
 ghost use Prim.Native.Nat.{ℕ, _+_, _%_, _≤_};
 ghost use lib.ListN.{length, take};
@@ -20,7 +21,7 @@ ghost use Rattle.meaning.specs.RuleFile.{headerLength};
 ghost use Rattle.meaning.specs.CheckProgram.{frontLength, frontCheck, eventsIn, lineBytes, ruleWord, printed};
 ghost use Rattle.program.specs.Passes.{passSays, fedOn};
 ghost use Rattle.program.specs.Texts.{textSays, InRoom};
-ghost use Rattle.program.specs.Bodies.{programBook, zeroBook, blockLength, Took, HasRead, bothLines};
+ghost use Rattle.program.specs.Bodies.{programBook, zeroBook, blockLength, Carried, Took, HasRead, bothLines};
 
 // The bytes of a block, the events that they hold, and the words of the longest book.
 pub const BLOCK: usize = 65536;
@@ -56,6 +57,21 @@ pub fn own_book(file: &[u8]) -> [u64; 65]
     let mut book = zeros();
     book::make_book(file, &mut book);
     book
+}
+
+// The first bytes of the body are in the front already: they are laid into a block, as many as it takes, and the rest of it stays.
+pub fn carry(front: &[u8], block: &mut [u8]) -> usize
+    ensures { λ r. ⌜ Carried (now (front .entry)) (now (block .entry)) r (now (block .exit)) ⌝ }
+{
+    let mut i = 0;
+    while i < front.len() {
+        if block.len() <= i {
+            return i;
+        }
+        block[i] = front[i];
+        i += 1;
+    }
+    i
 }
 
 // Before the first byte.
@@ -94,6 +110,7 @@ fn feed_both(file: &[u8], book: &[u64], both: Both, block: &[u8]) -> Both
 // block before has an even count of bytes.
 pub fn take(file: &[u8], book: &[u64], size: u32, body: Body, block: &[u8]) -> Body
     ensures { λ r. ⌜ ((bytes : List ℕ) → Took (now (file .entry)) (now (book .entry)) size body bytes → length bytes % 2 ≡ 0 → length (now (block .entry)) ≤ blockLength → Took (now (file .entry)) (now (book .entry)) size r (bytes ++ now (block .entry))) ⌝ }
+    ensures { λ r. ⌜ (r .after ≡ false → (r .taken ≡ body .taken + length (now (block .entry))) × (r .taken ≤ size)) ⌝ }
 {
     let both = body.both;
     let taken = body.taken;
@@ -103,7 +120,11 @@ pub fn take(file: &[u8], book: &[u64], size: u32, body: Body, block: &[u8]) -> B
         return body;
     }
     if whole < taken {
-        return body;
+        return Body {
+            both,
+            taken,
+            after: true,
+        };
     }
     if whole - taken < count {
         return Body {

@@ -3,13 +3,13 @@
 -- record of events what the whole input says.
 use mathlib.Core.Path.{_≡_, refl, sym, ap, _∙_}
 use mathlib.Core.Bool.{Bool, true, false}
-use mathlib.Core.List.{List, [], _∷_}
+use mathlib.Core.List.{List, [], _∷_, _++_}
 use Prim.Native.Nat.{ℕ, suc, _+_, _*_, _%_, _≤_, _<_}
 use native.Mathlib.Nat.{lt-of-not-le}
 use native.Mathlib.Decide.{decLe}
 use native.Mathlib.Omega.{arith}
-use lib.ListN.{length, take}
-use lib.Seq.{take-all}
+use lib.ListN.{length, take, length-append}
+use lib.Seq.{take-all, take-append-seam}
 use borrow.Author.Tests.{le-ltb, ltb-true, ltb-false, eqb-true, eqb-false, ne-eqb}
 use Rattle.meaning.specs.Answers.{Answer, given, refused, refuse_at_when_otherwise_, _andThen_, _giving_, _<?_, _=?_, if_then_else_}
 use Rattle.meaning.specs.RuleFile.{Rule, isMove, isClass, ruleOf, checkRule, recordCheck, numbersCheck, tableCheck, letterRecord, treeRecord, classRecord, fileLength, headerLength, numbersLength}
@@ -17,7 +17,7 @@ use Rattle.meaning.specs.CheckProgram.{EventsAt, frontLength, eventsHead
 use Rattle.meaning.proofs.laws.Answered.{refuse-passes, refuse-given, andThen-passes, giving-passes, giving-stops, giving-given, if-true, if-false}
 use Rattle.meaning.proofs.rulefile.RoundTrip.{accepted-longest}
 use Rattle.meaning.proofs.stores.OneAnswer.{given-says}
-use Rattle.meaning.proofs.program.Front.{front-length, record-same, rule-same, within, front-check, front-header}
+use Rattle.meaning.proofs.program.Front.{front-length, record-same, states-same, letters-same, rule-same, within, rest-same, front-check, front-header}
 
 -- ---- the checks of the four records never refuse by 5
 
@@ -235,3 +235,31 @@ header-says input place e =
     let a3 = refuse-given 3 place _ _ (a2 .1) in
     let size = given-says _ _ (a3 .1) in
     (ltb-false _ _ (a1 .0), rw (← size) (eqb-false _ _ (a3 .0)))
+
+-- ---- bytes after what was found
+
+-- a file that is followed is longer than its numbers
+past-numbers : (n k place : ℕ) → place ≡ fileLength n k → 12 ≤ place
+unfolding fileLength classRecord treeRecord letterRecord
+past-numbers n k place e = omega arith
+
+-- what was found in some bytes is found in them with more after them
+pub front-more : (bytes more : List ℕ) {at′ : EventsAt} → frontCheck bytes ≡ given at′ → frontCheck (bytes ++ more) ≡ given at′
+front-more bytes more {at′} e =
+    let input : List ℕ = bytes ++ more in
+    let m : ℕ = length bytes in
+    let f = found bytes e in
+    let g = followed bytes (f .after) in
+    let long : m ≤ length input = simp length-append (omega arith) in
+    let same : take m input ≡ bytes = take-append-seam bytes more in
+    let twelve : 12 ≤ m = omega (arith, past-numbers _ _ _ (g .ends), g .more) in
+    let states : ruleOf input .states ≡ ruleOf bytes .states
+    = sym (states-same input m long twelve) ∙ ap (λ b. ruleOf b .states) same in
+    let letters : ruleOf input .letters ≡ ruleOf bytes .letters
+    = sym (letters-same input m long twelve) ∙ ap (λ b. ruleOf b .letters) same in
+    let ends : fileLength (ruleOf input .states) (ruleOf input .letters) < m = rw (states, letters) (omega (arith, g .ends, g .more)) in
+    let check : checkRule input ≡ refused 5 (at′ .place)
+    = sym (rest-same input m long ends) ∙ (ap checkRule same ∙ f .after) in
+    fifth-starts input check
+    ∙ giving-passes _
+    (sym (front-header input m long (at′ .place) (header-says bytes (at′ .place) (f .header) .0)) ∙ (ap (λ b. eventsHeader b (at′ .place)) same ∙ f .header))

@@ -61,11 +61,11 @@ module _ (input : List ℕ) (m : ℕ) (long : m ≤ length input) where
 
   -- ---- the rule of the front
 
-  states-same : 12 ≤ m → ruleOf front .states ≡ ruleOf input .states
+  pub states-same : 12 ≤ m → ruleOf front .states ≡ ruleOf input .states
   unfolding ruleOf
   states-same h = byte-same headerLength (omega arith)
 
-  letters-same : 12 ≤ m → ruleOf front .letters ≡ ruleOf input .letters
+  pub letters-same : 12 ≤ m → ruleOf front .letters ≡ ruleOf input .letters
   unfolding ruleOf
   letters-same h = number2-same (headerLength + 3) (omega arith)
 
@@ -105,7 +105,7 @@ module _ (input : List ℕ) (m : ℕ) (long : m ≤ length input) where
       omega arith
 
   -- behind the numbers: all the rest is checked alike, and both go on after the fourth record
-  rest-same : fileLength (ruleOf input .states) (ruleOf input .letters) < m → checkRule front ≡ checkRule input
+  pub rest-same : fileLength (ruleOf input .states) (ruleOf input .letters) < m → checkRule front ≡ checkRule input
   unfolding checkRule fileLength classRecord treeRecord letterRecord
   rest-same h =
       let R : Rule = ruleOf input in
