@@ -81,14 +81,6 @@ fn take_events(
     }
 }
 
-// Before the first event: a feed of none.
-pub fn begin(file: &[u8], book: &[u64]) -> Pass
-    ensures { λ r. ⌜ passSays r ≡ programFed (now (file .entry)) (now (book .entry)) [] ⌝ }
-{
-    let none = [0u16; 1];
-    take_events(file, book, first_reading(file), no_levels(), &none[..0])
-}
-
 // More events.
 pub fn go_on(file: &[u8], book: &[u64], pass: Pass, events: &[u16]) -> Pass
     ensures { λ r. ⌜ passSays r ≡ fedOn (now (file .entry)) (now (book .entry)) (passSays pass) (now (events .entry)) ⌝ }
@@ -99,6 +91,19 @@ pub fn go_on(file: &[u8], book: &[u64], pass: Pass, events: &[u16]) -> Pass
         Feeding::Refused(_) => pass,
         Feeding::AllTaken => take_events(file, book, pass.reading, levels, events),
     }
+}
+
+// Before the first event: a feed of none.
+pub fn begin(file: &[u8], book: &[u64]) -> Pass
+    ensures { λ r. ⌜ passSays r ≡ programFed (now (file .entry)) (now (book .entry)) [] ⌝ }
+{
+    let none = [0u16; 1];
+    let fresh = Pass {
+        reading: first_reading(file),
+        ended: Feeding::AllTaken,
+        levels: no_levels(),
+    };
+    go_on(file, book, fresh, &none[..0])
 }
 
 // After the last event.

@@ -1,12 +1,14 @@
 -- `program::passes::begin` meets its contract: no event, from a fresh reading over levels that hold nothing.
 -- Assumes nothing.
-use mathlib.Core.Path.{_∙_, ap}
+use mathlib.Core.Path.{refl, _∙_, ap}
 use mathlib.Core.List.{[]}
 use denote.Ref.{now}
 use Rattle.meaning.specs.RuleFile.{ruleOf}
 use Rattle.meaning.specs.FullReading.{freshReading}
-use Rattle.meaning.specs.Calls.{feedCall, largestCeiling}
+use Rattle.meaning.specs.Calls.{feedCall, feedingSays, largestCeiling}
 use Rattle.meaning.specs.CheckProgram.{programFed}
+use Rattle.program.specs.Passes.{passSays}
+use Rattle.program.proofs.Feeds.{on-given}
 use borrow.Author.Needs.{needs}
 use Rattle.program.proofs.passes.begin.Statement.{statement}
 use Rattle.program.proofs.passes.begin.Tie as tie
@@ -20,19 +22,21 @@ no-levels-requires c κs = search needs
 array-share-prefix-none : tie.Need-array-share-prefix-none
 array-share-prefix-none c = search needs
 
-slice-aggregate-take-events : tie.Need-slice-aggregate-take-events
-slice-aggregate-take-events c = search needs
+slice-aggregate-go-on : tie.Need-slice-aggregate-go-on
+slice-aggregate-go-on c = search needs
 
-take-events-requires : tie.Need-take-events-requires
-take-events-requires c κs = search needs
+go-on-requires : tie.Need-go-on-requires
+go-on-requires c κs = search needs
 
 returns : tie.Need-returns
-unfolding programFed
+unfolding programFed passSays feedingSays
 returns c =
     let a = c .before .before .before .before .before .before .args in
-    c .take-events .ensures
-    ∙ (ap (λ r. feedCall (now (a .file)) (now (a .book)) largestCeiling r (c .before .before .no-levels .result) []) (c .before .before .before .first-reading .ensures)
-    ∙ ap (λ l. feedCall (now (a .file)) (now (a .book)) largestCeiling (freshReading (ruleOf (now (a .file)))) l []) (c .before .before .no-levels .ensures))
+    let levels = c .before .before .no-levels in
+    c .go-on .ensures
+    ∙ (on-given (now (a .file)) (now (a .book)) _ [] refl
+    ∙ (ap (λ r. feedCall (now (a .file)) (now (a .book)) largestCeiling r (levels .result) []) (c .before .before .before .first-reading .ensures)
+    ∙ ap (λ l. feedCall (now (a .file)) (now (a .book)) largestCeiling (freshReading (ruleOf (now (a .file)))) l []) (levels .ensures)))
 
 pub begin-spec : {M : Type 1} → statement M
 begin-spec =
@@ -41,6 +45,6 @@ begin-spec =
     first-reading-requires
     no-levels-requires
     array-share-prefix-none
-    slice-aggregate-take-events
-    take-events-requires
+    slice-aggregate-go-on
+    go-on-requires
     returns)
