@@ -26,10 +26,12 @@ fn spaced(text: Text, n: u64) -> Text
 pub(crate) fn refusal(text: Text, r: Refusal) -> Text
     ensures { λ t. ⌜ Lays text (lineBytes [] (refused (r .number) (r .place))) t ⌝ }
 {
+    let which = r.number as u64;
+    let place = r.place as u64;
     let said = word(text, b" refused");
-    let which = spaced(said, r.number as u64);
-    let place = spaced(which, r.place as u64);
-    put(place, b'\n')
+    let first = spaced(said, which);
+    let second = spaced(first, place);
+    put(second, b'\n')
 }
 
 // A verdict.
