@@ -14,7 +14,7 @@ use Rattle.meaning.proofs.program.Fifth.{found, header-says, front-join, front-
 use Rattle.program.specs.declared.body.Body.{Body}
 use Rattle.program.specs.Bodies.{blockLength, programBook, Took, HasRead}
 use Rattle.rule_check.specs.declared.blocks.Going.{Going}
-use Rattle.rule_check.specs.BlockRead.{Went, OneBlock, left}
+use Rattle.rule_check.specs.BlockRead.{TookMore, OneBlock, left}
 
 -- what stays before a place stays before an earlier one
 pub stays-before : (less more : ℕ) (a b : List ℕ) → less ≤ more → take more a ≡ take more b → take less a ≡ take less b
@@ -34,7 +34,7 @@ pub went-block : (file book : List ℕ) (size : ℕ) (before : Body) (there coun
     → ((bytes : List ℕ) → Took file book size before bytes → length bytes % 2 ≡ 0 → length (take count after) ≤ blockLength
     → Took file book size (r .body) (bytes ++ take count after))
     → (r .more ≡ true → count ≡ blockLength)
-    → Went file book size before (take there block) r
+    → TookMore file book size before (take there block) r
 went-block file book size before there count block after r h within room stays took full =
     let all : take there block ++ drop there (take count after) ≡ take count after = filled there count block after h stays in
     let counted : length (take count after) ≡ count = length-take-le count after within in
@@ -50,7 +50,7 @@ even-sum : (a b : ℕ) → a % 2 ≡ 0 → b % 2 ≡ 0 → (a + b) % 2 ≡ 0
 even-sum a b h k = omega arith
 
 pub went-on : (file book : List ℕ) (size : ℕ) (before : Body) (there : List ℕ) (first r : Going) → first .more ≡ true
-    → Went file book size before there first → Went file book size (first .body) [] r → Went file book size before there r
+    → TookMore file book size before there first → TookMore file book size (first .body) [] r → TookMore file book size before there r
 went-on file book size before there first r more one two =
     let both : (there ++ one .new) ++ two .new ≡ there ++ (one .new ++ two .new) = append-assoc there (one .new) (two .new) in
     let firstEven : length (there ++ one .new) % 2 ≡ 0 = one .even more in
@@ -75,7 +75,7 @@ fewer-left false size before taken h = omega arith
 
 -- from the first byte on
 pub took-all : (file book : List ℕ) (size : ℕ) (before : Body) (there part : List ℕ) (r : Going) → there ≡ part
-    → Took file book size before [] → (w : Went file book size before there r) → Took file book size (r .body) (part ++ w .new)
+    → Took file book size before [] → (w : TookMore file book size before there r) → Took file book size (r .body) (part ++ w .new)
 took-all file book size before there part r e t w =
     subst (λ (l : List ℕ). Took file book size (r .body) (l ++ w .new)) e (w .took [] t refl)
 

@@ -15,7 +15,7 @@ ghost use Rattle.meaning.specs.Answers.{given};
 ghost use Rattle.meaning.specs.CheckProgram.{frontLength, frontCheck, printed};
 ghost use Rattle.program.specs.Bodies.{blockLength};
 ghost use Rattle.program.specs.Texts.{textSays, InRoom};
-ghost use Rattle.rule_check.specs.BlockRead.{Went, OneBlock};
+ghost use Rattle.rule_check.specs.BlockRead.{TookMore, OneBlock};
 
 // The body so far, whether there is more to read, and whether a read failed.
 struct Going {
@@ -70,7 +70,7 @@ fn one_block(
 // The blocks after the first. Each one after which more is read is full, and its bytes are of the record, so they come to an end.
 fn read_body(file: &[u8], book: &[u64], size: u32, first: Going, block: &mut [u8]) -> Going
     requires { ⌜ length (now block) ≡ blockLength ⌝ }
-    ensures { λ r. ⌜ ((before : Body) (there : List ℕ) → OneBlock (now (file .entry)) (now (book .entry)) size before there first → r .failed ≡ false → Went (now (file .entry)) (now (book .entry)) size before there r) ⌝ }
+    ensures { λ r. ⌜ ((before : Body) (there : List ℕ) → OneBlock (now (file .entry)) (now (book .entry)) size before there first → r .failed ≡ false → TookMore (now (file .entry)) (now (book .entry)) size before there r) ⌝ }
 {
     let mut going = first;
     while going.more {

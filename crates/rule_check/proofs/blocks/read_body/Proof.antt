@@ -9,7 +9,7 @@ use lib.ListN.{length}
 use denote.Ref.{now}
 use Rattle.program.specs.declared.body.Body.{Body}
 use Rattle.program.specs.Bodies.{blockLength}
-use Rattle.rule_check.specs.BlockRead.{Went, OneBlock, left}
+use Rattle.rule_check.specs.BlockRead.{TookMore, OneBlock, left}
 use Rattle.rule_check.proofs.Glue.{went-on, fewer-left}
 use Rattle.rule_check.proofs.blocks.read_body.Statement.{statement}
 use Rattle.rule_check.proofs.blocks.read_body.Tie as tie
@@ -17,7 +17,7 @@ use Rattle.rule_check.proofs.blocks.read_body.Tie as tie
 abbrev Inv-loop : tie.InvT-loop
 Inv-loop file book size block₀ going₀ block going =
     (length block ≡ length block₀) × ((before : Body) (there : List ℕ) → OneBlock file book size before there going₀
-    → (going .failed ≡ false → Went file book size before there going) × (going .more ≡ true → going .failed ≡ false))
+    → (going .failed ≡ false → TookMore file book size before there going) × (going .more ≡ true → going .failed ≡ false))
 
 abbrev μ-loop : tie.MeasureT-loop
 μ-loop file book size block₀ going₀ block going = left (going .more) size (going .body .taken)
