@@ -233,6 +233,10 @@ module _ (R : Rule) where
   unfolding startMarks
   start-true p e = goes-true p (treeStartMove R) (marked-true (R .states) (λ q. goesTo q (treeStartMove R)) p e .1)
 
+  pub start-length : length (startMarks R) ≡ R .states
+  unfolding startMarks
+  start-length = listed-length (R .states) _
+
   pub start-is-marked : IsRule R → {p : ℕ} → treeStartMove R ≡ to p → marked (startMarks R) p ≡ true
   unfolding startMarks
   start-is-marked rule {p} e =
