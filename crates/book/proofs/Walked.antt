@@ -1,14 +1,15 @@
 -- The tables of an accepted file, walked: what each look finds is the rule's move, so the words that are joined stand for the
 -- states one move away.
-use mathlib.Core.Path.{_≡_, sym, ap, ap₂, _∙_}
+use mathlib.Core.Path.{_≡_, refl, sym, ap, ap₂, _∙_}
 use mathlib.Core.Bool.{Bool, not, _&&_, _||_}
 use mathlib.Core.List.{List}
 use Prim.Native.Nat.{ℕ, _+_, _^_, _≤_, _<_}
 use native.Mathlib.Omega.{arith}
 use lib.Bits.{bitOr}
 use borrow.Author.Tests.{ne-eqb}
+use Rattle.meaning.specs.Answers.{_=?_}
 use Rattle.meaning.specs.RuleFile as format
-use Rattle.meaning.specs.RuleFile.{Move, to, noMove, asMove, letterMove, treeMove, treeStartMove, ruleOf}
+use Rattle.meaning.specs.RuleFile.{Move, none, asMove, letterMove, treeMove, treeStartMove, ruleOf}
 use Rattle.meaning.specs.SkipBook.{anyBelow, goesTo, noneOr, bit}
 use Rattle.meaning.proofs.skipbook.Rounds.{most-states}
 use Rattle.meaning.proofs.skipbook.Bits.{bit-zero}
@@ -17,25 +18,24 @@ use Rattle.rule.specs.declared.Rule.{Rule}
 use Rattle.rule.specs.Says.{numbersOf, RuleOf}
 use Rattle.rule.specs.declared.tables.Table.the-variants.{LetterMoves, TreeStart, TreeMoves}
 use Rattle.rule.specs.declared.tables.Move as tables
+use Rattle.rule.specs.declared.tables.Move.the-variants as found
 use Rattle.rule.specs.Tables.{letterByte, treeByte, moveSays, moveIn}
 use Rattle.rule.proofs.Looks.{found-is, letter-look, tree-look}
-use Rattle.book.specs.Sets.{StandsFor, StatesOf, byLetters, byTrees, firstOf, changing}
+use Rattle.book.specs.Sets.{StandsFor, StatesOf, stateOrNone, byLetters, byTrees, firstOf, changing}
 use Rattle.book.proofs.Standing.{stands-as, stands-only, stands-empty, stands-more, members-below, Turn}
 
 -- ---- what a look finds, and the state that it leads to
 
-pub target-some : (q w : ℕ) → w ≡ 2 ^ q → StandsFor w (λ p. goesTo p (to q))
-unfolding goesTo
-target-some q w e = rw e (stands-only q)
+goes-as : (m : tables.Move) (p : ℕ) → p < 64 → goesTo p (moveSays m) ≡ (stateOrNone m =? p)
+unfolding goesTo moveSays stateOrNone
+goes-as (found.To q) p h = refl
+goes-as (found.NoneIn table) p h = sym (ne-eqb none p (λ e. omega arith))
 
-pub target-none : StandsFor 0 (λ p. goesTo p noMove)
-unfolding goesTo
-target-none = stands-empty
+pub target-some : (m : tables.Move) (w : ℕ) → w ≡ 2 ^ stateOrNone m → StandsFor w (λ p. goesTo p (moveSays m))
+target-some m w e = rw e (stands-as _ _ _ (λ p h. sym (goes-as m p h)) (stands-only (stateOrNone m)))
 
--- no state is so large
-pub target-past : (q : ℕ) → 64 ≤ q → StandsFor 0 (λ p. goesTo p (to q))
-unfolding goesTo
-target-past q l = stands-as 0 _ _ (λ p h. sym (ne-eqb q p (λ e. omega arith))) stands-empty
+pub target-none : (m : tables.Move) → 64 ≤ stateOrNone m → StandsFor 0 (λ p. goesTo p (moveSays m))
+target-none m l = stands-as 0 _ _ (λ p h. sym (goes-as m p h ∙ ne-eqb (stateOrNone m) p (λ e. omega arith))) stands-empty
 
 -- ---- the first i moves of a row
 

@@ -6,7 +6,9 @@ use Prim.Native.Nat.{ℕ, _<_}
 use lib.ListN.{getD}
 use Rattle.meaning.specs.Answers.{_<?_}
 use Rattle.meaning.specs.RuleFile as format
-use Rattle.meaning.specs.RuleFile.{letterMove, treeMove}
+use Rattle.meaning.specs.RuleFile.{none, letterMove, treeMove}
+use Rattle.rule.specs.declared.tables.Move.{Move}
+use Rattle.rule.specs.declared.tables.Move.the-variants as move
 use Rattle.meaning.specs.SkipBook.{anyBelow, goesTo, noneOr, oneMove, endsIn, reachedIn, holdMarks, wordOf, bit}
 
 -- a word of 64 bits stands for the states that pass a test
@@ -20,6 +22,11 @@ joined table set p = bit set p || anyBelow 64 (λ m. bit set m && bit (getD tabl
 -- only the first n states are members
 unfoldable pub StatesOf : ℕ → ℕ → Type 0
 StatesOf n set = (p : ℕ) → bit set p ≡ true → p < n
+
+-- the state that a move leads to, or none
+unfoldable pub stateOrNone : Move → ℕ
+stateOrNone (move.To state) = state
+stateOrNone (move.NoneIn table) = none
 
 -- the states one letter move away, and those one tree move away with lower states from a set
 unfoldable pub byLetters : format.Rule → ℕ → ℕ → Bool

@@ -12,19 +12,28 @@ ghost use Rattle.meaning.specs.RuleFile.{ruleOf};
 ghost use Rattle.meaning.specs.SkipBook.{goesTo, noneOr};
 ghost use Rattle.rule.specs.Says.{RuleOf};
 ghost use Rattle.rule.specs.Tables.{moveSays};
-ghost use Rattle.book.specs.Sets.{StandsFor, StatesOf, Moves, WithTrees, byLetters, byTrees, changing};
+ghost use Rattle.book.specs.Sets.{StandsFor, StatesOf, Moves, WithTrees, stateOrNone, byLetters, byTrees, changing};
+
+// The state that a move leads to, or none. By way of it a look and what is made of it compile to one read and one test.
+fn state_or_none(found: Move) -> u8
+    ensures { λ r. ⌜ r ≡ stateOrNone found ⌝ }
+{
+    match found {
+        Move::To(state) => state,
+        Move::NoneIn(_) => Rule::NONE,
+    }
+}
 
 // The state that a move leads to, as a set: empty where there is none.
 pub fn target(found: Move) -> u64
     ensures { λ r. ⌜ StandsFor r (λ p. goesTo p (moveSays found)) ⌝ }
 {
-    let Move::To(state) = found else {
-        return 0;
-    };
+    let state = state_or_none(found);
     if state < Rule::MOST_STATES {
-        return only(state);
+        only(state)
+    } else {
+        0
     }
-    0
 }
 
 // The states that the letters lead to from a state.
