@@ -7,7 +7,7 @@ use mathlib.Core.List.{List, []}
 use Prim.Native.Nat.{ℕ, zero, suc, _^_, _≤_, _<_}
 use native.Mathlib.Omega.{arith}
 use lib.Bits.{bitXor}
-use lib.ListN.{length, getD}
+use lib.ListN.{getD}
 use Rattle.meaning.specs.RuleFile.{Rule, IsRule, treeMove, treeStartMove}
 use Rattle.meaning.specs.SkipBook.{anyBelow, marked, goesTo, oneMove, rounds, startMarks, endRound, endsIn, endMarks, adds, wordOf, bit}
 use Rattle.meaning.proofs.laws.Truths.{same-truth, or-true-right}

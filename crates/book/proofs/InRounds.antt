@@ -14,10 +14,10 @@ use lib.Pow.{pow-lt}
 use borrow.Author.Tests.{eqb-true, eq-eqb}
 use Rattle.meaning.specs.Answers.{_=?_}
 use Rattle.meaning.specs.RuleFile.{Rule, IsRule}
-use Rattle.meaning.specs.SkipBook.{marked, round, rounds, endMarks, onlyState, reachedIn, adds, roundsUsedUp, wordOf, bit}
+use Rattle.meaning.specs.SkipBook.{marked, round, rounds, endMarks, onlyState, reachedIn, adds, wordOf, bit}
 use Rattle.meaning.proofs.laws.Answered.{and-true, both-true}
 use Rattle.meaning.proofs.laws.Truths.{truth, same-truth, or-cases, or-true-left, or-true-right, never-both}
-use Rattle.meaning.proofs.laws.Bools.{below-any, any-below, no-below-any, any-below-fails}
+use Rattle.meaning.proofs.laws.Bools.{below-any, any-below, any-below-fails}
 use Rattle.meaning.proofs.skipbook.Reaching.{reach-below}
 use Rattle.meaning.proofs.skipbook.Rounds.{most-states, one-below, round-keeps, round-adds, round-by, round-length, nothing-added, reach-keeps, reach-alike, reach-never-used-up, marked-reached, reached-first, reached-next, only-true, only-start, only-length}
 use Rattle.meaning.proofs.skipbook.Bits.{bit-word, word-of}

@@ -5,7 +5,7 @@ use crate::documents::fresh_a;
 use crate::documents::told;
 use crate::files::book_of;
 use crate::rules::rule_met_later;
-use crate::rules::rule_of_two;
+use crate::rules::rule_no_start;
 use crate::rules::rule_with_spare;
 use crate::stores;
 
@@ -23,7 +23,7 @@ fn read_spare(name: &[u8], book: &[u64]) {
 pub fn cases() {
     book_of(
         b"the book of no tree start, where no tree move counts",
-        &rule_of_two(),
+        &rule_no_start(),
         37,
     );
     book_of(

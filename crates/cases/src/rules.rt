@@ -297,7 +297,7 @@ pub fn rule_of_none() -> [u8; 44] {
 }
 
 // Two states whose letters stay and whose trees do not, and no tree start: no tree move counts in Reach, but hold asks for them.
-pub fn rule_of_two() -> [u8; 37] {
+pub fn rule_no_start() -> [u8; 37] {
     [
         5,
         0,

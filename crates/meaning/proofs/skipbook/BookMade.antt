@@ -2,22 +2,22 @@
 -- marks test all of Reach, and the marks of Reach are Reach.
 use mathlib.Core.Path.{_≡_, sym, ap, _∙_, subst}
 use mathlib.Core.Logic.{_↔_}
-use mathlib.Core.Bool.{Bool, true, false, not, _||_}
+use mathlib.Core.Bool.{Bool, true, not, _||_}
 use mathlib.Core.List.{List, _++_}
 use Prim.Native.Nat.{ℕ, zero, suc, _+_, _^_, _≤_, _<_}
 use native.Mathlib.Numerals.{one-add, add-one}
 use lib.Count.{ones}
 use lib.ListN.{length, getD, drop, List·getD-append}
 use lib.Pow.{pow-pos}
-use borrow.Author.Tests.{eqb-true, eq-eqb, le-ltb}
+use borrow.Author.Tests.{eqb-true, eq-eqb}
 use Rattle.meaning.specs.Answers.{given, _=?_}
 use Rattle.meaning.specs.RuleFile.{Rule, IsRule, treeMove, checkRule, ruleOf}
-use Rattle.meaning.specs.SkipBook.{Reach, Still, Hold, noneOr, allBelow, listed, marked, adds, reachedIn, reachMarks, roundsUsedUp, stillMarks, holdMarks, wordOf, bit, bookOf, inStill, inHold, IsBook, makeBook, bookAfter}
-use Rattle.meaning.proofs.laws.Answered.{refuse-given, refuse-passes, giving-given, giving-passes}
+use Rattle.meaning.specs.SkipBook.{Reach, Still, Hold, noneOr, allBelow, listed, marked, reachMarks, stillMarks, holdMarks, wordOf, bit, bookOf, inStill, inHold, IsBook, makeBook, bookAfter}
+use Rattle.meaning.proofs.laws.Answered.{refuse-passes, giving-given, giving-passes}
 use Rattle.meaning.proofs.rulefile.Accepted.{accepted-rule, accepted-is-rule}
 use Rattle.meaning.proofs.laws.Truths.{implied, implies}
-use Rattle.meaning.proofs.laws.Bools.{no-below-any, all-below, below-all, listed-length, listed-at}
-use Rattle.meaning.proofs.skipbook.BookLong.{long-passes, long-given}
+use Rattle.meaning.proofs.laws.Bools.{all-below, below-all, listed-length, listed-at}
+use Rattle.meaning.proofs.skipbook.BookLong.{long-passes}
 use Rattle.meaning.proofs.skipbook.Marks.{listed-each, marked-below}
 use Rattle.meaning.proofs.skipbook.Rounds.{marks-are-reach, reach-never-used-up, never-used-up}
 use Rattle.meaning.proofs.skipbook.Reaching.{reach-below}

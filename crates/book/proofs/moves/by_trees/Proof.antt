@@ -2,7 +2,7 @@
 -- lead to, is all that is to be joined, and those that are left are states. The measure is the rest, which is less without its
 -- lowest member. Assumes nothing.
 use borrow.Author.Needs.{needs}
-use Prim.Native.Nat.{ℕ, _<_}
+use Prim.Native.Nat.{_<_}
 use native.Mathlib.Omega.{arith}
 use lib.Count.{trailingZeros}
 use Rattle.meaning.specs.RuleFile.{ruleOf}

@@ -4,7 +4,6 @@ use borrow.Author.Needs.{needs}
 use mathlib.Core.Bool.{_||_}
 use Prim.Native.Nat.{_≤_, _<_, _-_}
 use native.Mathlib.Omega.{arith}
-use denote.Ref.{now}
 use lib.ListN.{getD}
 use Rattle.meaning.specs.RuleFile.{ruleOf}
 use Rattle.meaning.specs.SkipBook.{bit}

@@ -1,9 +1,8 @@
 -- `book::rounds::tree_ends` meets its contract. The loop's invariant: the word is that of so many rounds, and the table is the one
 -- for it as lower states. Where a round changes nothing, both are those of all rounds after it. Assumes nothing.
 use borrow.Author.Needs.{needs}
-use mathlib.Core.Path.{_≡_, sym, ap}
-use mathlib.Core.List.{List}
-use Prim.Native.Nat.{ℕ, suc, _+_, _≤_, _-_}
+use mathlib.Core.Path.{_≡_}
+use Prim.Native.Nat.{suc, _≤_, _-_}
 use native.Mathlib.Numerals.{add-one}
 use native.Mathlib.Omega.{arith}
 use denote.Ref.{now}
