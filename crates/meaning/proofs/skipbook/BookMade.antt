@@ -7,12 +7,12 @@ use mathlib.Core.List.{List, _++_}
 use Prim.Native.Nat.{ℕ, zero, suc, _+_, _^_, _≤_, _<_}
 use native.Mathlib.Numerals.{one-add, add-one}
 use lib.Count.{ones}
-use lib.ListN.{length, getD, List·getD-append}
+use lib.ListN.{length, getD, drop, List·getD-append}
 use lib.Pow.{pow-pos}
 use borrow.Author.Tests.{eqb-true, eq-eqb}
-use Rattle.meaning.specs.Answers.{given, _=?_}
+use Rattle.meaning.specs.Answers.{Answer, given, refused, _=?_}
 use Rattle.meaning.specs.RuleFile.{Rule, IsRule, treeMove}
-use Rattle.meaning.specs.SkipBook.{Reach, Still, Hold, noneOr, allBelow, listed, marked, reachMarks, stillMarks, holdMarks, wordOf, bit, bookOf, inStill, inHold, IsBook, makeBook}
+use Rattle.meaning.specs.SkipBook.{Reach, Still, Hold, noneOr, allBelow, listed, marked, reachMarks, stillMarks, holdMarks, wordOf, bit, bookOf, inStill, inHold, IsBook, makeBook, bookAfter}
 use Rattle.meaning.proofs.laws.Answered.{refuse-passes}
 use Rattle.meaning.proofs.laws.Truths.{implied, implies}
 use Rattle.meaning.proofs.laws.Bools.{all-below, below-all, listed-length, listed-at}
@@ -97,6 +97,18 @@ module _ (R : Rule) (rule : IsRule R) where
         stillIs = λ q h. iff (in-still R rest q) (still-is q h);
         holdIs = λ u p hu hp. iff (in-hold R rest u p hu) (hold-is u p hp);
       }
+
+-- ---- what a call leaves
+
+-- a refusal leaves the book, and an answer that was given has it written
+module _ {A : Type 0} (answer : Answer A) (R : Rule) (book : List ℕ) where
+  pub after-refused : {number place : ℕ} → answer ≡ refused number place → bookAfter answer R book ≡ book
+  unfolding bookAfter
+  after-refused e = rw (e, bookAfter)
+
+  pub after-given : {a : A} → answer ≡ given a → bookAfter answer R book ≡ bookOf R ++ drop (R .states + 1) book
+  unfolding bookAfter
+  after-given e = rw (e, bookAfter)
 
 -- every rule has its book made, where there is room for it
 pub always-made : (R : Rule) (book : List ℕ) → IsRule R → R .states + 1 ≤ length book

@@ -1,7 +1,7 @@
 -- Opening: where it gives its answer, the file is accepted, the book had room and now holds the rule's skip book, the reading is the
 -- fresh one of that rule, and the count is of the states that are still. So whoever calls open, feed and finish has the premises
 -- of what is proved of these calls; and every accepted file is opened, where there is room for its book.
-use mathlib.Core.Path.{_≡_, sym, ap, _∙_}
+use mathlib.Core.Path.{_≡_, _∙_}
 use mathlib.Core.List.{List}
 use Prim.Native.Nat.{ℕ, _+_, _≤_}
 use native.Mathlib.Omega.{arith}
@@ -10,17 +10,33 @@ use lib.Count.{ones}
 use lib.ListN.{length, drop, length-append, length-drop}
 use Rattle.meaning.specs.declared.Level.{Level}
 use Rattle.meaning.specs.declared.Opening.{Opening}
-use Rattle.meaning.specs.Answers.{given}
+use Rattle.meaning.specs.Answers.{given, refused}
 use Rattle.meaning.specs.RuleFile.{Rule, checkRule, ruleOf}
 use Rattle.meaning.specs.FullReading.{freshReading}
-use Rattle.meaning.specs.SkipBook.{IsBook, wordOf, stillMarks, makeBook, bookAfter}
+use Rattle.meaning.specs.SkipBook.{IsBook, wordOf, stillMarks, makeBook}
 use Rattle.meaning.specs.Calls.{openCall, openedBook, readingCheck}
 use Rattle.meaning.proofs.rulefile.Accepted.{accepted-rule, accepted-is-rule}
-use Rattle.meaning.proofs.laws.Answered.{giving-given, giving-passes, refuse-given}
+use Rattle.meaning.proofs.laws.Answered.{giving-given, giving-passes, giving-stops, refuse-given}
 use Rattle.meaning.proofs.skipbook.BookLong.{long-given}
-use Rattle.meaning.proofs.skipbook.BookMade.{book-length, made-is-book, always-made}
+use Rattle.meaning.proofs.skipbook.BookMade.{book-length, made-is-book, after-given, always-made}
 use Rattle.meaning.proofs.stores.ReadingCheck.{check-passes}
 use Rattle.meaning.proofs.stores.KeptReading.{IsReading, reading-is}
+
+-- ---- how it goes
+
+pub open-unchecked : (file book : List ℕ) {number place : ℕ} → checkRule file ≡ refused number place → openCall file book ≡ refused number place
+unfolding openCall
+open-unchecked file book e = giving-stops _ e
+
+module _ (file book : List ℕ) {R : Rule} (accepted : checkRule file ≡ given R) where
+  pub open-unmade : {number place : ℕ} → makeBook R book ≡ refused number place → openCall file book ≡ refused number place
+  unfolding openCall
+  open-unmade e = giving-passes _ accepted ∙ giving-stops _ e
+
+  pub open-made : {count : ℕ} → makeBook R book ≡ given count
+      → openCall file book ≡ given (record { reading = freshReading R; still = count })
+  unfolding openCall
+  open-made e = giving-passes _ accepted ∙ giving-passes _ e
 
 -- ---- what an opening that gave its answer says
 
@@ -52,9 +68,8 @@ open-says file book {o} e =
 module _ (file book : List ℕ) {o : Opening} (opened : openCall file book ≡ given o) where
   -- it is as long as the one that was lent
   pub opened-length : length (openedBook file book) ≡ length book
-  unfolding bookAfter
   opened-length =
-      rw (opened, bookAfter)
+      rw (after-given _ (ruleOf file) book opened)
       (simp (length-append, length-drop, book-length) (omega (arith, open-says file book opened .longEnough)))
 
   -- so it has n+1 words or more
@@ -63,17 +78,14 @@ module _ (file book : List ℕ) {o : Opening} (opened : openCall file book ≡ g
 
   -- it is the skip book of the file's rule
   pub open-writes : IsBook (ruleOf file) (openedBook file book)
-  unfolding bookAfter
   open-writes =
       let says = open-says file book opened in
-      rw (opened, bookAfter) (made-is-book (ruleOf file) (accepted-is-rule file (says .accepted)) (drop (ruleOf file .states + 1) book))
+      rw (after-given _ (ruleOf file) book opened) (made-is-book (ruleOf file) (accepted-is-rule file (says .accepted)) (drop (ruleOf file .states + 1) book))
 
 -- every accepted file is opened, where there is room for its book
 pub always-opens : (file book : List ℕ) {R : Rule} → checkRule file ≡ given R → R .states + 1 ≤ length book
     → openCall file book ≡ given (record { reading = freshReading R; still = ones (wordOf (stillMarks R)) })
-unfolding openCall
-always-opens file book {R} e room =
-    giving-passes _ e ∙ giving-passes _ (always-made R book (accepted-is-rule file e) room)
+always-opens file book {R} e room = open-made file book e (always-made R book (accepted-is-rule file e) room)
 
 -- ---- the fresh reading passes every check
 
