@@ -24,6 +24,12 @@ use Rattle.reading.specs.Checks.{ruleIn}
 use Rattle.reading.specs.Whole.{openedReading, checkOpened, Begins}
 use Rattle.reading.proofs.Checks.{ruled-by}
 
+-- the reading that opening gave
+pub first-is : (x : Opened) {o : Opening} → openedSays x ≡ given o → openedReading x ≡ o .reading
+unfolding openedSays openedReading refusalSays
+first-is (opened.Ready o′) {o} e = ap (λ (x : Opening). x .reading) (given-says o′ o e)
+first-is (opened.Refused f) e = let z : _≡_ {A = ℕ} 0 1 = cc in absurd (omega arith)
+
 module _ (file book : List ℕ) (count : ℕ) {rule : Rule} {going : Going} {book′ : List ℕ} where
   pub begins : (o : Opened) (x : Checked) → openedSays o ≡ openCall file book → checkedSays x ≡ checkOpened (checkAnswer file) o
       → (first : Reading) → first ≡ openedReading o → rule ≡ ruleIn x → going ≡ startOf x first count → book′ ≡ openedBook file book

@@ -1,9 +1,9 @@
 // Reading a whole document: where feeding begins once it is opened.
 use crate::checking::rule_in;
 use crate::feeding::started;
+use crate::first_of;
 use crate::open;
 use meaning::Opened;
-use meaning::Reading;
 use rule::Checked;
 use rule::Rule;
 use turning::Going;
@@ -12,7 +12,7 @@ ghost use mathlib.Core.List.{List};
 ghost use Prim.Native.Nat.{ℕ};
 ghost use Rattle.meaning.specs.Calls.{openedSays};
 ghost use Rattle.rule.specs.Says.{checkedSays, checkAnswer};
-ghost use Rattle.reading.specs.Whole.{openedReading, checkOpened, Begins};
+ghost use Rattle.reading.specs.Whole.{checkOpened, Begins};
 
 // The largest ceiling.
 pub const LARGEST_CEILING: u32 = 4294967295;
@@ -21,22 +21,6 @@ pub const LARGEST_CEILING: u32 = 4294967295;
 pub struct Begun {
     pub rule: Rule,
     pub going: Going,
-}
-
-// The reading that opening gave, or five zeros.
-fn first_of(opened: Opened) -> Reading
-    ensures { λ r. ⌜ r ≡ openedReading opened ⌝ }
-{
-    match opened {
-        Opened::Ready(opening) => opening.reading,
-        Opened::Refused(_) => Reading {
-            state: 0,
-            depth: 0,
-            skip: 0,
-            taken: 0,
-            looks: 0,
-        },
-    }
 }
 
 // What opening refused, or the rule that it opened.

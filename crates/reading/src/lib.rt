@@ -28,7 +28,7 @@ use turning::advancing::top_place;
 ghost use mathlib.Core.Path.{_≡_};
 ghost use Rattle.meaning.specs.Calls.{openedSays, openCall, openedBook, endSays, feedCall, finishCall, wholeDocument};
 ghost use Rattle.reading.specs.Feeding.{FedIs};
-ghost use Rattle.reading.specs.Whole.{ReadIs};
+ghost use Rattle.reading.specs.Whole.{openedReading, ReadIs};
 
 // What feeding answers over levels of one's own: the answer, and the levels after it.
 pub struct FedArray {
@@ -45,6 +45,22 @@ pub fn open(file: &[u8], book: &mut [u64]) -> Opened
     match Rule::of_file(file) {
         Checked::Refused(refusal) => Opened::Refused(refusal),
         Checked::Fine(rule) => open_rule(file, rule, book),
+    }
+}
+
+// The reading that opening gave, or five zeros where it refused.
+pub fn first_of(opened: Opened) -> Reading
+    ensures { λ r. ⌜ r ≡ openedReading opened ⌝ }
+{
+    match opened {
+        Opened::Ready(opening) => opening.reading,
+        Opened::Refused(_) => Reading {
+            state: 0,
+            depth: 0,
+            skip: 0,
+            taken: 0,
+            looks: 0,
+        },
     }
 }
 

@@ -1,9 +1,9 @@
--- `reading::document::first_of` meets its contract.
+-- `reading::first_of` meets its contract.
 -- Assumes nothing.
 use borrow.Author.Needs.{needs}
 use Rattle.reading.specs.Whole.{openedReading}
-use Rattle.reading.proofs.document.first_of.Statement.{statement}
-use Rattle.reading.proofs.document.first_of.Tie as tie
+use Rattle.reading.proofs.first_of.Statement.{statement}
+use Rattle.reading.proofs.first_of.Tie as tie
 
 enum-known-opened : tie.Need-enum-known-opened
 enum-known-opened c = search needs
