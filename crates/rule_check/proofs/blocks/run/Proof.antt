@@ -32,14 +32,14 @@ open-requires c κs = search needs
 
 sub-carry : tie.Need-sub-carry
 sub-carry c =
-    let a = c .before .before .before .args in
-    let pre = c .before .before .before .pre in
+    let a = c .before .before .before .before .args in
+    let pre = c .before .before .before .before .pre in
     start-in (now (a .front)) (a .at .place) (a .at .size) (pre .1)
 
 part-carry-start : tie.Need-part-carry-start
 part-carry-start c =
-    let a = c .before .before .before .args in
-    let pre = c .before .before .before .pre in
+    let a = c .before .before .before .before .args in
+    let pre = c .before .before .before .before .pre in
     omega (arith, start-in (now (a .front)) (a .at .place) (a .at .size) (pre .1))
 
 part-carry-end : tie.Need-part-carry-end
@@ -67,7 +67,7 @@ one-block-requires : tie.Need-one-block-requires
 one-block-requires c κs = search needs
 
 slice-aggregate-read-body : tie.Need-slice-aggregate-read-body
-slice-aggregate-read-body c = search needs
+slice-aggregate-read-body c = sym (c .before .before .before .before .before .before .before .before .before .before .before .before .«open» .ensures .1 .1)
 
 slice-aggregate-read-body-2 : tie.Need-slice-aggregate-read-body-2
 slice-aggregate-read-body-2 c = search needs
@@ -76,15 +76,15 @@ read-body-requires : tie.Need-read-body-requires
 read-body-requires c κs = search needs
 
 slice-aggregate-text : tie.Need-slice-aggregate-text
-slice-aggregate-text c = sym (c .before .before .before .before .before .before .before .before .before .before .before .before .before .before .before .before .«open» .ensures .1 .1)
+slice-aggregate-text c = sym (c .before .before .before .before .before .before .before .before .before .before .before .before .before .before .before .before .before .«open» .ensures .1 .1)
 
 text-requires : tie.Need-text-requires
 text-requires c κs = search needs
 
 returns : tie.Need-returns
 returns c =
-    let a = c .before .before .before .before .before .before .before .before .before .before .before .before .before .before .before .before .before .before .before .before .args in
-    let pre = c .before .before .before .before .before .before .before .before .before .before .before .before .before .before .before .before .before .before .before .before .pre in
+    let a = c .before .before .before .before .before .before .before .before .before .before .before .before .before .before .before .before .before .before .before .before .before .args in
+    let pre = c .before .before .before .before .before .before .before .before .before .before .before .before .before .before .before .before .before .before .before .before .before .pre in
     let said = c .text .ensures in
     let front : List ℕ = now (a .front) in
     let start : ℕ = a .at .place + 6 in
@@ -94,7 +94,7 @@ returns c =
       λ read.
           let went = c .before .before .before .before .read-body .ensures _ _ (rest .ensures) read in
           let begun = c .before .before .before .before .before .before .before .before .before .before .before .begin in
-          let opened = c .before .before .before .before .before .before .before .before .before .before .before .before .before .before .before .before .before .«open» in
+          let opened = c .before .before .before .before .before .before .before .before .before .before .before .before .before .before .before .before .before .before .«open» in
           let file : List ℕ = take (a .at .place) front in
           let part : take (length front - start) (drop start front) ≡ drop start front
           = take-all (length front - start) (drop start front) (omega (arith, length-drop start front)) in
