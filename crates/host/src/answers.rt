@@ -66,13 +66,7 @@ pub fn lay_written(written: Written, answer: &mut [u64]) -> bool
 }
 
 // A count and a reading.
-fn lay_counted(
-    number: u8,
-    place: usize,
-    count: u32,
-    reading: Reading,
-    answer: &mut [u64],
-) -> bool
+fn lay_counted(number: u8, place: usize, count: u32, reading: Reading, answer: &mut [u64]) -> bool
     ensures { λ r. ⌜ Laid (number ∷ place ∷ count ∷ readingValues reading) (now (answer .entry)) r (now (answer .exit)) ⌝ }
 {
     let numbers: [u64; 8] = [
