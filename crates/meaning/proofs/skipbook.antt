@@ -6,3 +6,4 @@ pub mod Bits
 pub mod BookLong
 pub mod BookMade
 pub mod MoreSkipped
+pub mod Runs
