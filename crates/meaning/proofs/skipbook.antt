@@ -7,3 +7,4 @@ pub mod BookLong
 pub mod BookMade
 pub mod MoreSkipped
 pub mod Runs
+pub mod LargestBook
