@@ -34,18 +34,69 @@ pub record OneHedge (R : Rule) (p : ℕ) (run : List ℕ) (q : ℕ) : Type 0 whe
   pub only : (other : Hedge) → eventsOf other ≡ run → other ≡ hedge
 
 module _ {R : Rule} where
+  hedge-of : {p q : ℕ} {run : List ℕ} (h : Hedge) → eventsOf h ≡ run → Goes R p h q → OneHedge R p run q
+  hedge-of h e g = record { hedge = h; itsEvents = e; goes = g; only = λ other same. one-hedge (same ∙ sym e) }
+
   pub run-is-hedge : {p q : ℕ} {run : List ℕ} → RunEnds R p run q ↔ OneHedge R p run q
   run-is-hedge = (
-    λ r.
-        let h = streams-hedge (r .reads) in
-        record { hedge = h .0; itsEvents = h .1; goes = h .2; only = λ other e. one-hedge (e ∙ sym (h .1)) },
+    λ r. let h = streams-hedge (r .reads) in hedge-of (h .0) (h .1) (h .2),
     λ o. reads-nested (rw (o .itsEvents) at (goes-streams {σ = []} (o .goes))),
   )
 
   -- ---- above any stack
 
-  -- reading that came past the close of a tree
-  record Closed (u q : ℕ) (σ rest : List ℕ) (q″ : ℕ) (σ″ : List ℕ) : Type 0 where
-    next : ℕ
-    leads : treeMove R u q ≡ to next
-    reads : Streams R next σ rest q″ σ″
+  -- the machine on a close, and what came after it
+  past-close : {u q q″ : ℕ} {σ σ″ rest : List ℕ} → Streams R q (u ∷ σ) (1 ∷ rest) q″ σ″
+      → (next : ℕ) × (treeMove R u q ≡ to next) × Streams R next σ rest q″ σ″
+  past-close (readsClose {q′} leads s) = (q′, leads, s)
+
+  -- what the machine reads of a hedge's events, above any stack, the automaton goes by
+  past-hedge : {p q : ℕ} {σ τ : List ℕ} (h : Hedge) (rest : List ℕ) → Streams R p σ (eventsOf h ++ rest) q τ
+      → (next : ℕ) × Goes R p h next × Streams R next σ rest q τ
+  unfolding eventsOf
+  past-hedge {p} ε rest s = (p, byNothing, s)
+  past-hedge (a · h) rest (readsLetter known leads s) =
+      let w = past-hedge h rest s in
+      (w .0, byLetter known leads (w .1), w .2)
+  past-hedge (⟨ h ⟩· g) rest (readsOpen starts s) =
+      let inside = past-hedge h (1 ∷ (eventsOf g ++ rest)) (rw (append-assoc (eventsOf h) (1 ∷ eventsOf g) rest) at s) in
+      let closed = past-close (inside .2) in
+      let w = past-hedge g rest (closed .2) in
+      (w .0, byTree starts (inside .1) (closed .1) (w .1), w .2)
+
+  nothing-left : {p p′ q : ℕ} {σ τ : List ℕ} {h : Hedge} → Goes R p h p′ → Streams R p′ σ [] q τ → Goes R p h q × (σ ≡ τ)
+  nothing-left g readsNothing = (g, refl)
+
+  whole-hedge : {p q : ℕ} {σ τ run : List ℕ} (h : Hedge) → eventsOf h ≡ run → Streams R p σ run q τ → Goes R p h q × (σ ≡ τ)
+  whole-hedge h e s =
+      let events : _ ≡ eventsOf h ++ [] = sym e ∙ sym (append-nil (eventsOf h)) in
+      let w = past-hedge h [] (rw events at s) in
+      nothing-left (w .1) (w .2)
+
+  -- a run is read above any stack as above none, and leaves it
+  pub run-above : {p q : ℕ} (σ : List ℕ) {run : List ℕ} → RunEnds R p run q → Streams R p σ run q σ
+  run-above σ r = let h = streams-hedge (r .reads) in rw (h .1) at (goes-streams {σ = σ} (h .2))
+
+  pub above-run : {p q : ℕ} {σ τ run : List ℕ} → wellNested (R .letters) run ≡ true → Streams R p σ run q τ
+      → RunEnds R p run q × (σ ≡ τ)
+  above-run {run} nested s =
+      let h = nested-hedge (R .letters) run nested in
+      let w = whole-hedge (h .0) (h .1) s in
+      (run-is-hedge .1 (hedge-of (h .0) (h .1) (w .0)), w .1)
+
+-- ---- full reading in the midst of a document
+
+module _ (R : Rule) (room ceiling : ℕ) (m : Run) (stands : Stands room ceiling m) (run : List ℕ) where
+  -- where the limits suffice, full reading takes a well-nested run of known events and comes to q exactly if the run ends in q; its
+  -- levels are then those that were open before
+  pub full-reads-run : wellNested (R .letters) run ≡ true → Suffices room ceiling m run → (q : ℕ)
+      → RunEnds R (m .reading .state) run q ↔ Arrives (feedBy (fullStep R room ceiling) m run) q (aboves (m .levels))
+  full-reads-run nested enough q =
+      let both = full-is-machine R room ceiling m stands run q (aboves (m .levels)) in
+      (λ r. both .1 (run-above (aboves (m .levels)) r, enough), λ there. above-run nested (both .0 there .0) .0)
+
+  -- and wherever it takes all of such a run, it has come to where the run ends
+  pub full-took-run : wellNested (R .letters) run ≡ true → feedBy (fullStep R room ceiling) m run .ended ≡ given tt
+      → RunEnds R (m .reading .state) run (feedBy (fullStep R room ceiling) m run .last .reading .state)
+  full-took-run nested all =
+      above-run nested (full-is-machine R room ceiling m stands run _ _ .0 (full-arrives R room ceiling m stands run all) .0) .0
