@@ -1,7 +1,7 @@
 -- Is the book as large as it can be? (document 02, L13): the runs that can follow a state, and what they say of still and hold.
 -- Levels, ceiling and event limit are unbounded here, so a run is read by the paper's machine, which knows none of them: a state
 -- and a stack of states.
-use Prim.Native.Nat.{ℕ, _+_, _≤_, _<_}
+use Prim.Native.Nat.{ℕ, _<_}
 use mathlib.Core.Path.{_≡_}
 use mathlib.Core.Logic.{_↔_}
 use mathlib.Core.Bool.{true, false}

@@ -14,15 +14,21 @@ use Rattle.meaning.specs.declared.Reading.{Reading}
 use Rattle.meaning.specs.declared.Level.{Level}
 use Rattle.meaning.specs.Answers.{given}
 use Rattle.meaning.specs.RuleFile.{Rule, to, treeMove, isState, checkRule}
-use Rattle.meaning.specs.FullReading.{Went, Run, fullStep, feedBy}
-use Rattle.meaning.specs.Hedges.{Hedge, ε, _·_, ⟨_⟩·_, eventsOf, Goes, byNothing, byLetter, byTree, wellNested}
+use Rattle.meaning.specs.FullReading.{Table, Went, Run, fullStep, feedBy}
+use Rattle.meaning.specs.Hedges.{Hedge, ε, _·_, ⟨_⟩·_, eventsOf, Goes, byNothing, byLetter, byTree, Led, missingAt, evaluate, wellNested}
 use Rattle.meaning.specs.StreamingMachine.{Streams, readsNothing, readsLetter, readsOpen, readsClose, aboves, Suffices}
-use Rattle.meaning.specs.Skipping.{Zeros, skipStep}
-use Rattle.meaning.specs.Calls.{Stored, storeStep, readingCheck, feedCall}
+use Rattle.meaning.specs.Skipping.{Zeros}
+use Rattle.meaning.specs.Calls.{Stored, readingCheck, feedCall}
 use Rattle.meaning.specs.LargestBook.{RunEnds, readingIn, FedTo}
+use Rattle.meaning.proofs.automaton.Automaton.{goes-evaluates, goes-one}
 use Rattle.meaning.proofs.automaton.Nested.{nested-hedge, one-hedge}
 use Rattle.meaning.proofs.automaton.Streaming.{Stands, Arrives, full-is-machine, full-arrives, goes-streams, streams-hedge}
+use Rattle.meaning.proofs.automaton.OfCalls.{no-aboves, no-levels}
 use Rattle.meaning.proofs.skipbook.Runs.{reads-nested}
+use Rattle.meaning.proofs.stores.KeptReading.{IsReading, reading-is}
+use Rattle.meaning.proofs.stores.ReadingCheck.{check-passes, feed-checked}
+use Rattle.meaning.proofs.stores.StoreView.{levelsOf, OneView, store-is-levels}
+use Rattle.meaning.proofs.stores.ZeroBook.{zero-book}
 
 -- ---- the hedge of a run
 
@@ -42,6 +48,26 @@ module _ {R : Rule} where
     λ r. let h = streams-hedge (r .reads) in hedge-of (h .0) (h .1) (h .2),
     λ o. reads-nested (rw (o .itsEvents) at (goes-streams {σ = []} (o .goes))),
   )
+
+  -- it ends in one state
+  pub one-end : {p q q′ : ℕ} {run : List ℕ} → RunEnds R p run q → RunEnds R p run q′ → q ≡ q′
+  one-end r r′ =
+      let o = run-is-hedge .0 r in
+      let o′ = run-is-hedge .0 r′ in
+      goes-one (o .goes) (rw (o .only (o′ .hedge) (o′ .itsEvents)) at (o′ .goes))
+
+  -- the empty run is one, and ends where it began
+  pub empty-run : {p : ℕ} → RunEnds R p [] p
+  empty-run = reads-nested readsNothing
+
+  -- one that finds no move ends nowhere
+  pub stops-ends-nowhere : {p q i : ℕ} {table : Table} (h : Hedge) → evaluate R p h ≡ missingAt table i
+      → ¬ RunEnds R p (eventsOf h) q
+  stops-ends-nowhere h stops r =
+      let o = run-is-hedge .0 r in
+      let there = goes-evaluates (rw (← o .only h refl) at (o .goes)) in
+      let z : _≡_ {A = ℕ} 0 1 = cc in
+      omega arith
 
   -- ---- above any stack
 
@@ -100,3 +126,78 @@ module _ (R : Rule) (room ceiling : ℕ) (m : Run) (stands : Stands room ceiling
       → RunEnds R (m .reading .state) run (feedBy (fullStep R room ceiling) m run .last .reading .state)
   full-took-run nested all =
       above-run nested (full-is-machine R room ceiling m stands run _ _ .0 (full-arrives R room ceiling m stands run all) .0) .0
+
+-- ---- by the calls
+
+-- a reading that stands in a state of the rule, with nothing open, passes the check
+standing-checked : (file book : List ℕ) (store : List Level) (p : ℕ) {R : Rule} → checkRule file ≡ given R
+    → R .states + 1 ≤ length book → p < R .states → readingCheck file book (readingIn p) store ≡ given R
+unfolding isState
+standing-checked file book store p {R} accepted long low =
+    check-passes file book (readingIn p) store
+    (record {
+      accepted = accepted;
+      longEnough = long;
+      isReading = reading-is R book (readingIn p) store
+          (record {
+            stateIn = lt-ltb p (R .states) low;
+            within = omega arith;
+            aboveIn = λ i h. absurd (not-suc-le-zero h);
+            skipsSettled = λ h. absurd (not-suc-le-zero h);
+            nested = omega arith;
+            looksIn = omega arith;
+          });
+    })
+
+module _ (file zeros : List ℕ) (store : List Level) (ceiling p : ℕ) (run : List ℕ) {R : Rule} (accepted : checkRule file ≡ given R)
+    (long : R .states + 1 ≤ length zeros) (empty : Zeros zeros) (low : p < R .states) where
+  abbrev standing : Run
+  standing = record { reading = readingIn p; levels = [] }
+
+  abbrev fed : Went Stored
+  fed = feedCall file zeros ceiling (readingIn p) store run
+
+  abbrev inFull : Went Run
+  inFull = feedBy (fullStep R (length store) ceiling) standing run
+
+  -- the feed is full reading
+  fed-is-full : OneView (length store) fed inFull
+  unfolding levelsOf
+  fed-is-full =
+      rw (
+        feed-checked file zeros (readingIn p) store ceiling run (standing-checked file zeros store p accepted long low),
+        ← zero-book zeros empty R (length store) ceiling standing run,
+      )
+      (store-is-levels R zeros ceiling (readingIn p) store run (omega arith))
+
+  stands : Stands (length store) ceiling standing
+  stands = record { stored = refl; levels = omega arith; looks = omega arith; taken = omega arith }
+
+  -- A feed of the run with a book of zeros, from a reading that stands in p, takes all events and comes to q with no level open
+  -- exactly if the run ends in q and store, ceiling and event limit suffice.
+  pub calls-read-run : (q : ℕ) → FedTo fed q ↔ (RunEnds R p run q × Suffices (length store) ceiling standing run)
+  unfolding aboves
+  calls-read-run q =
+      let machine = full-is-machine R (length store) ceiling standing stands run q [] in
+      let one = fed-is-full in
+      let depth = ap (λ (r : Reading). r .depth) (one .reading) in
+      let state = ap (λ (r : Reading). r .state) (one .reading) in (
+        λ there.
+            let all : inFull .ended ≡ given tt = sym (one .ended) ∙ there .allTaken in
+            let stored = full-arrives R (length store) ceiling standing stands run all .stored in
+            let both = machine .0
+            (record {
+              allTaken = all;
+              inState = sym state ∙ there .inState;
+              withStack = no-aboves (inFull .last .levels) (sym stored ∙ (sym depth ∙ there .noneOpen));
+              stored = stored;
+            }) in
+            (reads-nested (both .0), both .1),
+        λ ends.
+            let came = machine .1 (ends .0 .reads, ends .1) in
+            record {
+              allTaken = one .ended ∙ came .allTaken;
+              inState = state ∙ came .inState;
+              noneOpen = depth ∙ (came .stored ∙ no-levels (inFull .last .levels) (came .withStack));
+            },
+      )
