@@ -56,10 +56,6 @@ module _ {R : Rule} where
       let o′ = run-is-hedge .0 r′ in
       goes-one (o .goes) (rw (o .only (o′ .hedge) (o′ .itsEvents)) at (o′ .goes))
 
-  -- the empty run is one, and ends where it began
-  pub empty-run : {p : ℕ} → RunEnds R p [] p
-  empty-run = reads-nested readsNothing
-
   -- one that finds no move ends nowhere
   pub stops-ends-nowhere : {p q i : ℕ} {table : Table} (h : Hedge) → evaluate R p h ≡ missingAt table i
       → ¬ RunEnds R p (eventsOf h) q

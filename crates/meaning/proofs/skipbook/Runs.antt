@@ -2,13 +2,13 @@
 -- begins with the tree start, so a tree ends in a state in which a tree can end. And every member of Reach has a run: a letter
 -- move appends its event; a tree move appends an open, a run from the tree start to the lower state, and a close. The lower
 -- state's run is there by the same reasoning over the states in which a tree can end.
-use mathlib.Core.Path.{_≡_}
+use mathlib.Core.Path.{_≡_, refl}
 use mathlib.Core.Logic.{_↔_}
 use mathlib.Core.Bool.{true}
 use mathlib.Core.List.{List, [], _∷_, _++_}
 use Prim.Native.Nat.{ℕ, zero, suc, _<_}
 use Rattle.meaning.specs.RuleFile.{Rule, to, letterMove, treeMove, treeStartMove}
-use Rattle.meaning.specs.Hedges.{Hedge, eventsOf, Goes, byNothing, byLetter, byTree, wellNested}
+use Rattle.meaning.specs.Hedges.{Hedge, eventsOf, Goes, byNothing, byLetter, byTree, nestedFrom, knownEvents, wellNested}
 use Rattle.meaning.specs.StreamingMachine.{Streams, readsNothing, readsLetter, readsOpen, readsClose}
 use Rattle.meaning.specs.SkipBook.{CanEndTree, Reach}
 use Rattle.meaning.specs.LargestBook.{RunEnds}
@@ -84,6 +84,11 @@ module _ {R : Rule} where
   reach-leads {p} within =
       reach-least (Leads R p) no-events (λ q a q′ l known leads. then-letter a l known leads)
       (λ q lower q′ l ends leads. let f = ends-lead ends in then-tree l (f .starts) (f .inside) leads) within
+
+  -- the empty run is one, and ends where it began
+  pub empty-run : {p : ℕ} → RunEnds R p [] p
+  unfolding wellNested nestedFrom knownEvents
+  empty-run = record { nested = refl; reads = readsNothing }
 
   -- events read from no stack to no stack are well nested, and known
   pub reads-nested : {p q : ℕ} {run : List ℕ} → Streams R p [] run q [] → RunEnds R p run q
