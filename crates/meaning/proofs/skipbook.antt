@@ -8,3 +8,4 @@ pub mod BookMade
 pub mod MoreSkipped
 pub mod Runs
 pub mod LargestBook
+pub mod EachWord
