@@ -5,7 +5,7 @@ use mathlib.Core.Path.{_≡_, refl, sym, ap, _∙_}
 use mathlib.Core.Logic.{_↔_}
 use mathlib.Core.Bool.{true}
 use mathlib.Core.List.{List, [], _∷_, _++_, append-assoc, append-nil}
-use Prim.Native.Nat.{ℕ, zero, suc, _+_, _≤_, _<_}
+use Prim.Native.Nat.{ℕ, zero, suc, _+_, _-_, _≤_, _<_}
 use native.Mathlib.Nat.{not-suc-le-zero}
 use native.Mathlib.Omega.{arith}
 use lib.ListN.{length}
@@ -14,8 +14,8 @@ use Rattle.meaning.specs.declared.Reading.{Reading}
 use Rattle.meaning.specs.declared.Level.{Level}
 use Rattle.meaning.specs.Answers.{given}
 use Rattle.meaning.specs.RuleFile.{Rule, to, treeMove, isState, checkRule}
-use Rattle.meaning.specs.FullReading.{Table, Went, Run, fullStep, feedBy}
-use Rattle.meaning.specs.Hedges.{Hedge, ε, _·_, ⟨_⟩·_, eventsOf, Goes, byNothing, byLetter, byTree, Led, missingAt, evaluate, wellNested}
+use Rattle.meaning.specs.FullReading.{eventOf, Table, mostEvents, Went, Run, fullStep, feedBy}
+use Rattle.meaning.specs.Hedges.{Hedge, ε, _·_, ⟨_⟩·_, eventsOf, Goes, byNothing, byLetter, byTree, Led, missingAt, evaluate, wellNested, deepestOn, deepest}
 use Rattle.meaning.specs.StreamingMachine.{Streams, readsNothing, readsLetter, readsOpen, readsClose, aboves, Suffices}
 use Rattle.meaning.specs.Skipping.{Zeros}
 use Rattle.meaning.specs.Calls.{Stored, readingCheck, feedCall}
@@ -125,6 +125,14 @@ module _ (R : Rule) (room ceiling : ℕ) (m : Run) (stands : Stands room ceiling
 
 -- ---- by the calls
 
+-- no more trees are open at once than there are events, besides those open before
+deepest-most : (d : ℕ) (es : List ℕ) → deepest d es ≤ d + length es
+unfolding deepest deepestOn eventOf
+deepest-most d [] = omega arith
+deepest-most d (zero ∷ es) = omega (arith, deepest-most (suc d) es)
+deepest-most d (suc zero ∷ es) = omega (arith, deepest-most (d - 1) es)
+deepest-most d (suc (suc a) ∷ es) = omega (arith, deepest-most d es)
+
 -- a reading that stands in a state of the rule, with nothing open, passes the check
 standing-checked : (file book : List ℕ) (store : List Level) (p : ℕ) {R : Rule} → checkRule file ≡ given R
     → R .states + 1 ≤ length book → p < R .states → readingCheck file book (readingIn p) store ≡ given R
@@ -197,3 +205,10 @@ module _ (file zeros : List ℕ) (store : List Level) (ceiling p : ℕ) (run : L
               noneOpen = depth ∙ (came .stored ∙ no-levels (inFull .last .levels) (came .withStack));
             },
       )
+
+  -- As many levels and looks as the run has events are enough, so a run within the event limit can be tried by the calls.
+  pub calls-try-run : {q : ℕ} → RunEnds R p run q → length run ≤ length store → length run ≤ ceiling → length run ≤ mostEvents
+      → FedTo fed q
+  calls-try-run {q} ends levels looks events =
+      calls-read-run q .1
+      (ends, record { levels = omega (arith, deepest-most 0 run); looks = omega arith; taken = omega arith })
