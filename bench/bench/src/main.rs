@@ -200,8 +200,8 @@ fn passing_over() -> Vec<Passing> {
 fn single_calls() -> Vec<Call> {
     let mut rows = Vec::new();
     for (name, rule) in [
-        ("the maker, both sets in one round", inputs::mixing(64, 256)),
-        ("the maker, both sets in 63 rounds", inputs::chain(64, 256)),
+        ("the maker, Reach in one round", inputs::mixing(64, 256)),
+        ("the maker, Reach in 63 rounds", inputs::chain(64, 256)),
     ] {
         let file = rule.to_file();
         let mut expected = vec![0; 65];

@@ -7,9 +7,9 @@ use lib.ListN.{getD}
 use Rattle.meaning.specs.Answers.{_<?_}
 use Rattle.meaning.specs.RuleFile as format
 use Rattle.meaning.specs.RuleFile.{none, letterMove, treeMove}
+use Rattle.meaning.specs.SkipBook.{anyBelow, goesTo, noneOr, oneMove, endsIn, reachedIn, holdMarks, wordOf, bit}
 use Rattle.rule.specs.declared.tables.Move.{Move}
 use Rattle.rule.specs.declared.tables.Move.the-variants as move
-use Rattle.meaning.specs.SkipBook.{anyBelow, goesTo, noneOr, oneMove, endsIn, reachedIn, holdMarks, wordOf, bit}
 
 -- a word of 64 bits stands for the states that pass a test
 unfoldable pub StandsFor : ℕ → (ℕ → Bool) → Type 0

@@ -37,19 +37,13 @@ pub fn tree_ends(file: &[u8], rule: Rule) -> TreeEnds
     while round < BEFORE_LAST {
         let next = with_members(&moves, set);
         if next == set {
-            return TreeEnds {
-                set: set,
-                moves: moves,
-            };
+            return TreeEnds { set, moves };
         }
         moves = with_trees(file, rule, &moves, next ^ set);
         set = next;
         round += 1;
     }
-    TreeEnds {
-        set: set,
-        moves: moves,
-    }
+    TreeEnds { set, moves }
 }
 
 // The states reached from a state in all rounds before the last. A round that adds nothing ends them, since none after it adds.
