@@ -3,6 +3,7 @@ use meaning::Refusal;
 use rule::Checked;
 use rule::Rule;
 use rule::check;
+use rule::tables::HEADER;
 ghost use mathlib.Core.Path.{_≡_};
 ghost use Prim.Native.Nat.{_+_, _*_, _≤_};
 ghost use Rattle.meaning.specs.Answers.{refused};
@@ -23,9 +24,7 @@ pub enum Front {
     Refused(Refusal),
 }
 
-// The bytes of a header, and the kind of the record that holds the events.
-const HEADER: usize = 6;
-
+// The kind of the record that holds the events.
 const EVENTS: u16 = 5;
 
 fn refuse(number: u8, place: usize) -> Front

@@ -1,2 +1,4 @@
--- The check program's input.
+-- The check program: its input and what it prints.
 pub mod Front
+pub mod Fifth
+pub mod Printed

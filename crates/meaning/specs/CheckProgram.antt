@@ -45,6 +45,10 @@ eventsPlace input = placeFrom (checkRule input)
     placeFrom (given R) = refused 1 (length input)
     placeFrom (refused number place) = if number =? 5 then given place else refused number place
 
+-- The front of an input, which decides where its events are: the longest rule file, 20,573 bytes, and a header after it.
+abbrev pub frontLength : ℕ
+frontLength = 20579
+
 -- where the record of events starts, and how many bytes its body has
 pub record EventsAt : Type 0 where
   pub place : ℕ

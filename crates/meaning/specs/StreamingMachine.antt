@@ -39,6 +39,20 @@ pub record Suffices (room ceiling : ℕ) (m : Run) (events : List ℕ) : Type 0 
   pub looks : m .reading .looks + length events ≤ ceiling
   pub taken : m .reading .taken + length events ≤ mostEvents
 
+-- a run whose levels are those that its reading counts, and which is within the limits
+pub record WithinLimits (room ceiling : ℕ) (m : Run) : Type 0 where
+  pub stored : m .reading .depth ≡ length (m .levels)
+  pub levels : m .reading .depth ≤ room
+  pub looks : m .reading .looks ≤ ceiling
+  pub taken : m .reading .taken ≤ mostEvents
+
+-- full reading took all events, and stands in a state with the states above its levels as a stack
+pub record Arrives (w : Went Run) (q : ℕ) (σ : List ℕ) : Type 0 where
+  pub allTaken : w .ended ≡ given tt
+  pub inState : w .last .reading .state ≡ q
+  pub withStack : aboves (w .last .levels) ≡ σ
+  pub stored : w .last .reading .depth ≡ length (w .last .levels)
+
 -- feeding took all events, and came to a state with these levels
 pub record Comes (fed : Went Run) (q : ℕ) (levels : List Level) : Type 0 where
   pub allTaken : fed .ended ≡ given tt

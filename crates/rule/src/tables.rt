@@ -19,10 +19,11 @@ pub enum Move {
     NoneIn(Table),
 }
 
-// The bytes before the letter moves, between two tables, and of a header.
+// The bytes before the letter moves.
 const LETTER_MOVES: usize = 17;
 
-pub(crate) const HEADER: usize = 6;
+// The bytes of a header.
+pub const HEADER: usize = 6;
 
 // The byte at a place, or none past the end.
 fn byte_or_none(file: &[u8], place: usize) -> u8

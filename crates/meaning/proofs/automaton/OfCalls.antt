@@ -14,14 +14,14 @@ use Rattle.meaning.specs.Answers.{given, _<?_}
 use Rattle.meaning.specs.RuleFile.{Rule, classOf, checkRule}
 use Rattle.meaning.specs.FullReading.{Went, Run, freshReading, freshRun, fullRun}
 use Rattle.meaning.specs.Hedges.{wellNested}
-use Rattle.meaning.specs.StreamingMachine.{Streams, aboves}
+use Rattle.meaning.specs.StreamingMachine.{Streams, aboves, WithinLimits}
 use Rattle.meaning.specs.Skipping.{Zeros}
 use Rattle.meaning.specs.Calls.{Judged, endOf, endOfRun, ReadsTo}
 use Rattle.meaning.specs.Demands.{FollowsAutomaton}
 use Rattle.meaning.proofs.laws.Answered.{refuse-given, refuse-passes}
 use Rattle.meaning.proofs.automaton.Automaton.{goes-known}
 use Rattle.meaning.proofs.automaton.Nested.{hedge-nested}
-use Rattle.meaning.proofs.automaton.Streaming.{Stands, Arrives, full-is-machine, full-arrives, full-skips-nothing, goes-streams, streams-hedge}
+use Rattle.meaning.proofs.automaton.Streaming.{full-is-machine, full-arrives, full-skips-nothing, goes-streams, streams-hedge}
 use Rattle.meaning.proofs.demand3.Demand3Calls.{full-by-calls, calls-by-full}
 
 -- a stack of no levels is of no states, and the other way round
@@ -39,18 +39,18 @@ module _ (R : Rule) (room ceiling : ℕ) (events : List ℕ) where
   abbrev run : Went Run
   run = fullRun R room ceiling events
 
-  fresh-stands : Stands room ceiling (freshRun R)
+  fresh-within : WithinLimits room ceiling (freshRun R)
   unfolding freshReading
-  fresh-stands = record { stored = refl; levels = omega arith; looks = omega arith; taken = omega arith }
+  fresh-within = record { stored = refl; levels = omega arith; looks = omega arith; taken = omega arith }
 
   follows : (j : Judged) → run .ended ≡ given tt → endOfRun R (run .last) ≡ given j → FollowsAutomaton R room ceiling events j
   unfolding endOf freshReading aboves
   follows j all judged =
       let passes = refuse-given 12 _ (0 <? run .last .reading .depth + run .last .reading .skip) _ judged in
       let flat : run .last .reading .depth + run .last .reading .skip ≤ 0 = ltb-false 0 _ (passes .0) in
-      let there = full-arrives R room ceiling (freshRun R) fresh-stands events all in
+      let there = full-arrives R room ceiling (freshRun R) fresh-within events all in
       let empty : aboves (run .last .levels) ≡ [] = no-aboves (run .last .levels) (omega (arith, there .stored)) in
-      let machine = full-is-machine R room ceiling (freshRun R) fresh-stands events _ _ .0 there in
+      let machine = full-is-machine R room ceiling (freshRun R) fresh-within events _ _ .0 there in
       let state : run .last .reading .state ≡ j .state = cc (passes .1) in
       let hedge = streams-hedge (rw (state, empty) at (machine .0)) in
       record {
@@ -66,8 +66,8 @@ module _ (R : Rule) (room ceiling : ℕ) (events : List ℕ) where
   unfolding endOf freshReading aboves
   followed j f =
       let streams = rw (f .itsEvents) at (goes-streams {σ = []} (f .goes)) in
-      let there = full-is-machine R room ceiling (freshRun R) fresh-stands events _ _ .1 (streams, f .suffices) in
-      let skip = full-skips-nothing R room ceiling (freshRun R) fresh-stands events (there .allTaken) in
+      let there = full-is-machine R room ceiling (freshRun R) fresh-within events _ _ .1 (streams, f .suffices) in
+      let skip = full-skips-nothing R room ceiling (freshRun R) fresh-within events (there .allTaken) in
       let flat : run .last .reading .depth + run .last .reading .skip ≤ 0 =
       omega (arith, there .stored, skip, no-levels (run .last .levels) (there .withStack)) in (
         there .allTaken,

@@ -16,13 +16,13 @@ use Rattle.meaning.specs.Answers.{given}
 use Rattle.meaning.specs.RuleFile.{Rule, to, treeMove, isState, checkRule}
 use Rattle.meaning.specs.FullReading.{eventOf, Table, mostEvents, Went, Run, fullStep, feedBy}
 use Rattle.meaning.specs.Hedges.{Hedge, ε, _·_, ⟨_⟩·_, eventsOf, Goes, byNothing, byLetter, byTree, Led, missingAt, evaluate, wellNested, deepestOn, deepest}
-use Rattle.meaning.specs.StreamingMachine.{Streams, readsNothing, readsLetter, readsOpen, readsClose, aboves, Suffices}
+use Rattle.meaning.specs.StreamingMachine.{Streams, readsNothing, readsLetter, readsOpen, readsClose, aboves, Suffices, WithinLimits, Arrives}
 use Rattle.meaning.specs.Skipping.{Zeros}
 use Rattle.meaning.specs.Calls.{Stored, readingCheck, feedCall}
 use Rattle.meaning.specs.LargestBook.{RunEnds, readingIn, FedTo}
 use Rattle.meaning.proofs.automaton.Automaton.{goes-evaluates, goes-one}
 use Rattle.meaning.proofs.automaton.Nested.{nested-hedge, one-hedge}
-use Rattle.meaning.proofs.automaton.Streaming.{Stands, Arrives, full-is-machine, full-arrives, goes-streams, streams-hedge}
+use Rattle.meaning.proofs.automaton.Streaming.{full-is-machine, full-arrives, goes-streams, streams-hedge}
 use Rattle.meaning.proofs.automaton.OfCalls.{no-aboves, no-levels}
 use Rattle.meaning.proofs.skipbook.Runs.{reads-nested}
 use Rattle.meaning.proofs.stores.KeptReading.{IsReading, reading-is}
@@ -108,20 +108,20 @@ module _ {R : Rule} where
 
 -- ---- full reading in the midst of a document
 
-module _ (R : Rule) (room ceiling : ℕ) (m : Run) (stands : Stands room ceiling m) (run : List ℕ) where
+module _ (R : Rule) (room ceiling : ℕ) (m : Run) (within : WithinLimits room ceiling m) (run : List ℕ) where
   -- where the limits suffice, full reading takes a well-nested run of known events and comes to q exactly if the run ends in q; its
   -- levels are then those that were open before
   pub full-reads-run : wellNested (R .letters) run ≡ true → Suffices room ceiling m run → (q : ℕ)
       → RunEnds R (m .reading .state) run q ↔ Arrives (feedBy (fullStep R room ceiling) m run) q (aboves (m .levels))
   full-reads-run nested enough q =
-      let both = full-is-machine R room ceiling m stands run q (aboves (m .levels)) in
+      let both = full-is-machine R room ceiling m within run q (aboves (m .levels)) in
       (λ r. both .1 (run-above (aboves (m .levels)) r, enough), λ there. above-run nested (both .0 there .0) .0)
 
   -- and wherever it takes all of such a run, it has come to where the run ends
   pub full-took-run : wellNested (R .letters) run ≡ true → feedBy (fullStep R room ceiling) m run .ended ≡ given tt
       → RunEnds R (m .reading .state) run (feedBy (fullStep R room ceiling) m run .last .reading .state)
   full-took-run nested all =
-      above-run nested (full-is-machine R room ceiling m stands run _ _ .0 (full-arrives R room ceiling m stands run all) .0) .0
+      above-run nested (full-is-machine R room ceiling m within run _ _ .0 (full-arrives R room ceiling m within run all) .0) .0
 
 -- ---- by the calls
 
@@ -174,21 +174,21 @@ module _ (file zeros : List ℕ) (store : List Level) (ceiling p : ℕ) (run : L
       )
       (store-is-levels R zeros ceiling (readingIn p) store run (omega arith))
 
-  stands : Stands (length store) ceiling standing
-  stands = record { stored = refl; levels = omega arith; looks = omega arith; taken = omega arith }
+  standing-within : WithinLimits (length store) ceiling standing
+  standing-within = record { stored = refl; levels = omega arith; looks = omega arith; taken = omega arith }
 
   -- A feed of the run with a book of zeros, from a reading that stands in p, takes all events and comes to q with no level open
   -- exactly if the run ends in q and store, ceiling and event limit suffice.
   pub calls-read-run : (q : ℕ) → FedTo fed q ↔ (RunEnds R p run q × Suffices (length store) ceiling standing run)
   unfolding aboves
   calls-read-run q =
-      let machine = full-is-machine R (length store) ceiling standing stands run q [] in
+      let machine = full-is-machine R (length store) ceiling standing standing-within run q [] in
       let one = fed-is-full in
       let depth = ap (λ (r : Reading). r .depth) (one .reading) in
       let state = ap (λ (r : Reading). r .state) (one .reading) in (
         λ there.
             let all : inFull .ended ≡ given tt = sym (one .ended) ∙ there .allTaken in
-            let stored = full-arrives R (length store) ceiling standing stands run all .stored in
+            let stored = full-arrives R (length store) ceiling standing standing-within run all .stored in
             let both = machine .0
             (record {
               allTaken = all;

@@ -17,7 +17,7 @@ use Rattle.meaning.specs.Answers.{Answer, given, refused, _≤?_, _=?_}
 use Rattle.meaning.specs.RuleFile.{Rule, to, letterMove, treeMove, treeStartMove}
 use Rattle.meaning.specs.FullReading.{Event, opens, closes, letter, eventOf, mostEvents, looked, newLevel, Turn, stays, stores, ends, fullTurn, knownEvent, fullEvent, Run, innermost, outer, runAfter, fullStep, Went, feedBy}
 use Rattle.meaning.specs.Hedges.{Hedge, ε, _·_, ⟨_⟩·_, eventsOf, Goes, byNothing, byLetter, byTree, deepestOn, deepest}
-use Rattle.meaning.specs.StreamingMachine.{Streams, readsNothing, readsLetter, readsOpen, readsClose, PartialRun, ofHedge, intoTree, aboves, Suffices}
+use Rattle.meaning.specs.StreamingMachine.{Streams, readsNothing, readsLetter, readsOpen, readsClose, PartialRun, ofHedge, intoTree, aboves, Suffices, WithinLimits, Arrives}
 use Rattle.meaning.proofs.laws.Answered.{giving-given}
 use Rattle.meaning.proofs.laws.Events.{known-letter}
 use Rattle.meaning.proofs.laws.FeedLaws.{feed-none, feed-taken, feed-first}
@@ -172,13 +172,6 @@ record Went-by (R : Rule) (room ceiling : ℕ) (r : Reading) (ls : List Level) (
   looks : r .looks ≤ ceiling → r .looks + length es ≤ ceiling
   taken : r .taken ≤ mostEvents → r .taken + length es ≤ mostEvents
 
--- full reading took all events, and stands in a state with the states above its levels as a stack
-pub record Arrives (w : Went Run) (q : ℕ) (σ : List ℕ) : Type 0 where
-  pub allTaken : w .ended ≡ given tt
-  pub inState : w .last .reading .state ≡ q
-  pub withStack : aboves (w .last .levels) ≡ σ
-  pub stored : w .last .reading .depth ≡ length (w .last .levels)
-
 module _ (R : Rule) (room ceiling : ℕ) where
   abbrev full : Reading → List Level → List ℕ → Went Run
   full r ls es = feedBy (fullStep R room ceiling) (record { reading = r; levels = ls }) es
@@ -297,25 +290,18 @@ module _ (R : Rule) (room ceiling : ℕ) where
 
 -- ---- event for event
 
--- a run whose levels are those that its reading counts, and which is within the limits
-pub record Stands (room ceiling : ℕ) (m : Run) : Type 0 where
-  pub stored : m .reading .depth ≡ length (m .levels)
-  pub levels : m .reading .depth ≤ room
-  pub looks : m .reading .looks ≤ ceiling
-  pub taken : m .reading .taken ≤ mostEvents
-
-module _ (R : Rule) (room ceiling : ℕ) (m : Run) (stands : Stands room ceiling m) (es : List ℕ) where
+module _ (R : Rule) (room ceiling : ℕ) (m : Run) (within : WithinLimits room ceiling m) (es : List ℕ) where
   -- Full reading takes some events and comes to a state and a stack exactly if the machine does and the limits suffice.
   pub full-is-machine : (q : ℕ) (σ : List ℕ)
       → Arrives (feedBy (fullStep R room ceiling) m es) q σ
       ↔ (Streams R (m .reading .state) (aboves (m .levels)) es q σ × Suffices room ceiling m es)
   full-is-machine q σ = (
     λ there.
-        let w = full-went R room ceiling (m .reading) (m .levels) es (stands .stored) (there .allTaken) in (
+        let w = full-went R room ceiling (m .reading) (m .levels) es (within .stored) (there .allTaken) in (
           rw (there .inState, there .withStack) at (w .streams),
-          record { levels = w .levels (stands .levels); looks = w .looks (stands .looks); taken = w .taken (stands .taken) },
+          record { levels = w .levels (within .levels); looks = w .looks (within .looks); taken = w .taken (within .taken) },
         ),
-    λ both. machine-read R room ceiling (m .reading) (m .levels) (both .0) refl refl (stands .stored) (both .1),
+    λ both. machine-read R room ceiling (m .reading) (m .levels) (both .0) refl refl (within .stored) (both .1),
   )
 
   -- and wherever it takes all events it has come somewhere
@@ -327,10 +313,10 @@ module _ (R : Rule) (room ceiling : ℕ) (m : Run) (stands : Stands room ceiling
         allTaken = all;
         inState = refl;
         withStack = refl;
-        stored = full-went R room ceiling (m .reading) (m .levels) es (stands .stored) all .stored;
+        stored = full-went R room ceiling (m .reading) (m .levels) es (within .stored) all .stored;
       }
 
   -- with the skip depth as it was
   pub full-skips-nothing : feedBy (fullStep R room ceiling) m es .ended ≡ given tt
       → feedBy (fullStep R room ceiling) m es .last .reading .skip ≡ m .reading .skip
-  full-skips-nothing all = full-went R room ceiling (m .reading) (m .levels) es (stands .stored) all .skip
+  full-skips-nothing all = full-went R room ceiling (m .reading) (m .levels) es (within .stored) all .skip

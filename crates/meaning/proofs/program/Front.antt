@@ -19,7 +19,7 @@ module _ (input : List ℕ) (m : ℕ) (long : m ≤ length input) where
   abbrev front : List ℕ
   front = take m input
 
-  front-length : length front ≡ m
+  pub front-length : length front ≡ m
   front-length = length-take-le m input long
 
   byte-same : (i : ℕ) → i < m → byteAt front i ≡ byteAt input i
@@ -51,7 +51,7 @@ module _ (input : List ℕ) (m : ℕ) (long : m ≤ length input) where
       (le-ltb (length front) bound (omega (arith, front-length)), le-ltb (length input) bound (omega arith))
 
   -- a record inside the front is checked alike
-  record-same : (place kind size : ℕ) → place + headerLength + size ≤ m
+  pub record-same : (place kind size : ℕ) → place + headerLength + size ≤ m
       → recordCheck front place kind size ≡ recordCheck input place kind size
   unfolding recordCheck
   record-same place kind size h =
@@ -61,11 +61,11 @@ module _ (input : List ℕ) (m : ℕ) (long : m ≤ length input) where
 
   -- ---- the rule of the front
 
-  states-same : 12 ≤ m → ruleOf front .states ≡ ruleOf input .states
+  pub states-same : 12 ≤ m → ruleOf front .states ≡ ruleOf input .states
   unfolding ruleOf
   states-same h = byte-same headerLength (omega arith)
 
-  letters-same : 12 ≤ m → ruleOf front .letters ≡ ruleOf input .letters
+  pub letters-same : 12 ≤ m → ruleOf front .letters ≡ ruleOf input .letters
   unfolding ruleOf
   letters-same h = number2-same (headerLength + 3) (omega arith)
 
@@ -75,7 +75,7 @@ module _ (input : List ℕ) (m : ℕ) (long : m ≤ length input) where
       rw (byte-same headerLength (omega arith), byte-same (headerLength + 1) (omega arith), byte-same (headerLength + 2) (omega arith), number2-same (headerLength + 3) (omega arith))
 
   -- where the four records lie inside the front, its rule is the input's
-  rule-same : fileLength (ruleOf input .states) (ruleOf input .letters) ≤ m → ruleOf front ≡ ruleOf input
+  pub rule-same : fileLength (ruleOf input .states) (ruleOf input .letters) ≤ m → ruleOf front ≡ ruleOf input
   unfolding ruleOf fileLength classRecord treeRecord letterRecord
   rule-same h =
       let n : ℕ = byteAt input 6 in
@@ -93,7 +93,7 @@ module _ (input : List ℕ) (m : ℕ) (long : m ≤ length input) where
   -- ---- the rule check of the front
 
   -- the longest rule file, by the ranges of n and k
-  within : numbersCheck (ruleOf input) ≡ given tt → fileLength (ruleOf input .states) (ruleOf input .letters) ≤ 20573
+  pub within : numbersCheck (ruleOf input) ≡ given tt → fileLength (ruleOf input .states) (ruleOf input .letters) ≤ 20573
   unfolding fileLength classRecord treeRecord letterRecord
   within e =
       let R : Rule = ruleOf input in
@@ -105,7 +105,7 @@ module _ (input : List ℕ) (m : ℕ) (long : m ≤ length input) where
       omega arith
 
   -- behind the numbers: all the rest is checked alike, and both go on after the fourth record
-  rest-same : fileLength (ruleOf input .states) (ruleOf input .letters) < m → checkRule front ≡ checkRule input
+  pub rest-same : fileLength (ruleOf input .states) (ruleOf input .letters) < m → checkRule front ≡ checkRule input
   unfolding checkRule fileLength classRecord treeRecord letterRecord
   rest-same h =
       let R : Rule = ruleOf input in

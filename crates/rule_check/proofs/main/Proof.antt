@@ -1,8 +1,12 @@
--- `rule_check::main` is safe: what was read is a part of the buffer.
+-- `rule_check::main` meets what `write` asks: what was read is a part of the buffer, and it is the front of an input.
 -- Assumes nothing.
-use mathlib.Core.Path.{sym}
+use mathlib.Core.Path.{sym, _∙_, ap}
+use mathlib.Core.List.{_++_}
 use native.Mathlib.Omega.{arith}
+use lib.ListN.{take}
 use lib.Seq.{length-take-le}
+use Rattle.meaning.proofs.program.Fifth.{front-join}
+use Rattle.input.specs.Says.{frontSays}
 use borrow.Author.Needs.{needs}
 use Rattle.rule_check.proofs.main.Statement.{statement}
 use Rattle.rule_check.proofs.main.Tie as tie
@@ -28,7 +32,7 @@ array-share-prefix-front c = search needs
 slice-aggregate-events-at : tie.Need-slice-aggregate-events-at
 slice-aggregate-events-at c =
     let f = c .before .before .before .fill in
-    sym (length-take-le (f .result .count) (f .last .0) (omega (arith, c .before .before .before)))
+    sym (length-take-le (f .result .count) (f .last .0) (omega (arith, f .ensures .0 .1, f .kept .0)))
 
 events-at-requires : tie.Need-events-at-requires
 events-at-requires c κs = search needs
@@ -36,8 +40,16 @@ events-at-requires c κs = search needs
 enum-known-refusal : tie.Need-enum-known-refusal
 enum-known-refusal c = search needs
 
-rule-refused-requires : tie.Need-rule-refused-requires
-rule-refused-requires c κs = search needs
+refused-text-requires : tie.Need-refused-text-requires
+refused-text-requires c κs = search needs
+
+write-requires : tie.Need-write-requires
+unfolding frontSays
+write-requires c κs =
+    let f = c .before .before .before .before .before .before .before .before .fill in
+    let front = take (f .result .count) (f .last .0) in
+    let said = sym (c .before .before .before .before .events-at .ensures) ∙ ap frontSays (c .before .before .refusal .given .1) in
+    (c .refused-text .ensures .0, (front, c .refused-text .ensures .1 .1 front (front-join front ∙ said)))
 
 enum-known-at : tie.Need-enum-known-at
 enum-known-at c = search needs
@@ -48,10 +60,20 @@ array-share-prefix-front-2 c = search needs
 slice-aggregate-run : tie.Need-slice-aggregate-run
 slice-aggregate-run c =
     let f = c .before .before .before .before .before .before .before .before .fill in
-    sym (length-take-le (f .result .count) (f .last .0) (omega (arith, c .before .before .before .before .before .before .before .before)))
+    sym (length-take-le (f .result .count) (f .last .0) (omega (arith, f .ensures .0 .1, f .kept .0)))
 
 run-requires : tie.Need-run-requires
-run-requires c κs = search needs
+unfolding frontSays
+run-requires c κs =
+    let f = c .before .before .before .before .before .before .before .before .fill in
+    let counted = length-take-le (f .result .count) (f .last .0) (omega (arith, f .ensures .0 .1, f .kept .0)) in
+    (omega (arith, counted, f .ensures .0 .1), sym (c .before .before .before .before .events-at .ensures) ∙ ap frontSays (c .before .before .at .given .1))
+
+tell-requires : tie.Need-tell-requires
+tell-requires c κs =
+    let f = c .before .before .before .before .before .before .before .before .before .fill in
+    let front = take (f .result .count) (f .last .0) in
+    (c .run .ensures .0, λ e. let more = c .run .ensures .1 e in (front ++ more .0, more .1))
 
 returns-2 : tie.Need-returns-2
 returns-2 c = search needs
@@ -72,10 +94,12 @@ main-spec =
     slice-aggregate-events-at
     events-at-requires
     enum-known-refusal
-    rule-refused-requires
+    refused-text-requires
+    write-requires
     enum-known-at
     array-share-prefix-front-2
     slice-aggregate-run
     run-requires
+    tell-requires
     returns-2
     returns-3)

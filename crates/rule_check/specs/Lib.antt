@@ -1,0 +1,2 @@
+-- What the contracts of the check program cite.
+pub mod BlockRead
