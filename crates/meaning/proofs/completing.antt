@@ -1,0 +1,4 @@
+-- Rules without gaps, and the completed rule.
+pub mod Rows
+pub mod Unbroken
+pub mod NeverMissing
