@@ -2,3 +2,6 @@
 pub mod Rows
 pub mod Unbroken
 pub mod NeverMissing
+pub mod NewState
+pub mod SameVerdict
+pub mod Completing

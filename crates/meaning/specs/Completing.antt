@@ -8,7 +8,7 @@ use mathlib.Core.List.{List, [], _∷_, _++_}
 use lib.ListN.{length, getD, take, drop}
 use Rattle.meaning.specs.declared.Level.{Level}
 use Rattle.meaning.specs.Answers.{Answer, given, refused, refuse_at_when_otherwise_, _giving_, _<?_, _=?_, if_then_else_}
-use Rattle.meaning.specs.RuleFile.{Rule, Move, noMove, to, none, mostStates, letterMove, treeMove, treeStartMove, fileLength, ruleBytes, ruleOf, checkRule}
+use Rattle.meaning.specs.RuleFile.{Rule, Move, noMove, to, none, mostStates, letterMove, treeMove, treeStartMove, classOf, fileLength, ruleBytes, ruleOf, checkRule}
 use Rattle.meaning.specs.FullReading.{Table, noMoveNumber, fullRun}
 use Rattle.meaning.specs.SkipBook.{listed}
 use Rattle.meaning.specs.Calls.{Judged, endOfRun, ReadsTo}
@@ -86,6 +86,21 @@ completed R = if nones R =? 0 then R else (withNewState R)
 -- how many bytes its file has
 unfoldable pub completedLength : Rule → ℕ
 completedLength R = fileLength (completed R .states) (completed R .letters)
+
+-- What becomes of the moves, of two rules: the old states' moves are unchanged, the new state stands in place of every none, and
+-- every letter move from it and every tree move with it on either side leads to it.
+pub record MovesCompleted (R C : Rule) : Type 0 where
+  pub letterKept : (q a : ℕ) {p : ℕ} → q < R .states → a < R .letters → letterMove R q a ≡ to p → letterMove C q a ≡ to p
+  pub treeKept : (u q : ℕ) {p : ℕ} → u < R .states → q < R .states → treeMove R u q ≡ to p → treeMove C u q ≡ to p
+  pub startKept : {p : ℕ} → treeStartMove R ≡ to p → treeStartMove C ≡ to p
+  pub letterNew : (q a : ℕ) → q < R .states → a < R .letters → letterMove R q a ≡ noMove → letterMove C q a ≡ to (R .states)
+  pub treeNew : (u q : ℕ) → u < R .states → q < R .states → treeMove R u q ≡ noMove → treeMove C u q ≡ to (R .states)
+  pub startNew : treeStartMove R ≡ noMove → treeStartMove C ≡ to (R .states)
+  pub letterStays : (a : ℕ) → a < R .letters → letterMove C (R .states) a ≡ to (R .states)
+  pub aboveStays : (q : ℕ) → q < suc (R .states) → treeMove C (R .states) q ≡ to (R .states)
+  pub belowStays : (u : ℕ) → u < suc (R .states) → treeMove C u (R .states) ≡ to (R .states)
+  pub classKept : (q : ℕ) → q < R .states → classOf C q ≡ classOf R q
+  pub classNew : classOf C (R .states) ≡ 0
 
 -- ---- the call
 

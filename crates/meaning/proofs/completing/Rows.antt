@@ -13,7 +13,7 @@ use Rattle.meaning.proofs.laws.Entries.{entry-in}
 use Rattle.meaning.proofs.laws.Bools.{listed-length, listed-at, last-or-below}
 
 -- what holds of every entry of two lists holds of those of both, one after the other
-append-all : (P : ℕ → Type 0) (d : ℕ) (xs ys : List ℕ) → ((i : ℕ) → i < length xs → P (getD xs i d))
+pub append-all : (P : ℕ → Type 0) (d : ℕ) (xs ys : List ℕ) → ((i : ℕ) → i < length xs → P (getD xs i d))
     → ((i : ℕ) → i < length ys → P (getD ys i d)) → (i : ℕ) → i < length (xs ++ ys) → P (getD (xs ++ ys) i d)
 append-all P d [] ys first second i h = second i h
 append-all P d (x ∷ xs) ys first second zero h = first zero (omega arith)
