@@ -6,20 +6,16 @@ use mathlib.Core.List.{List, _++_}
 use Prim.Native.Nat.{ℕ, _+_, _≤_, _<_}
 use lib.ListN.{length, drop}
 use lib.Count.{ones}
-use borrow.Author.Tests.{lt-ltb, le-ltb}
 use Rattle.meaning.specs.Answers.{Answer, given, refused, refuse_at_when_otherwise_}
-use Rattle.meaning.specs.RuleFile.{Rule, checkRule, ruleOf}
+use Rattle.meaning.specs.RuleFile.{Rule, checkRule}
 use Rattle.meaning.specs.SkipBook.{roundsUsedUp, stillMarks, wordOf, bookOf, makeBook, bookAfter}
 use Rattle.meaning.specs.Calls.{refusalSays}
-use Rattle.rule.specs.declared.Rule.{Rule as Numbers}
 use Rattle.rule.specs.declared.Checked.the-variants as checked
-use Rattle.rule.specs.Says.{numbersOf, checkedSays, checkAnswer, RuleOf}
-use Rattle.rule.proofs.Said.{fine-accepted}
+pub use Rattle.rule.proofs.Accepting.{fine}
 use Rattle.book.specs.declared.Made.{Made}
 use Rattle.book.specs.declared.Made.the-variants as made
 use Rattle.book.specs.Says.{madeSays}
 use Rattle.meaning.proofs.stores.OneAnswer.{refusal-says}
-use Rattle.meaning.proofs.rulefile.Accepted.{accepted-rule}
 use Rattle.meaning.proofs.skipbook.BookLong.{long-passes, short-stops}
 use Rattle.meaning.proofs.laws.Answered.{refuse-stops, refuse-passes, giving-passes, giving-stops}
 
@@ -53,13 +49,6 @@ pub after-given : (answer : Answer ℕ) {count : ℕ} (R : Rule) (book : List �
     → bookAfter answer R book ≡ bookOf R ++ drop (R .states + 1) book
 unfolding bookAfter
 after-given answer R book e = rw (e, bookAfter)
-
--- the numbers of a rule that the check gave are those of the file's rule
-pub fine : (file : List ℕ) (rule : Numbers) → checkedSays (checked.Fine rule) ≡ checkAnswer file → RuleOf file rule
-fine file rule e =
-    let f = fine-accepted file rule e in
-    let same : ruleOf file ≡ f .0 = accepted-rule file (f .1) in
-    record { accepted = f .1 ∙ ap given (sym same); numbers = ap numbersOf same ∙ f .2 }
 
 -- two answers that say the same are the same
 pub made-says : (a b : Made) → madeSays a ≡ madeSays b → a ≡ b

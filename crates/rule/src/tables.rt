@@ -22,7 +22,7 @@ pub enum Move {
 // The bytes before the letter moves, between two tables, and of a header.
 const LETTER_MOVES: usize = 17;
 
-pub(crate) const HEADER: usize = 6;
+pub const HEADER: usize = 6;
 
 // The byte at a place, or none past the end.
 fn byte_or_none(file: &[u8], place: usize) -> u8
@@ -46,7 +46,7 @@ fn move_in(table: Table, byte: u8) -> Move
 }
 
 // The product of two small numbers.
-pub(crate) fn product(a: u16, b: u16) -> usize
+pub fn product(a: u16, b: u16) -> usize
     ensures { λ r. ⌜ (r ≡ a * b) × (r < 2 ^ 32) ⌝ }
 {
     (a as usize) * (b as usize)

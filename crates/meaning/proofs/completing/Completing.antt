@@ -113,6 +113,12 @@ wrote file room e =
     }
 
 -- and the other way round
+pub few-or-none : (R : Rule) → Completable R → (0 <? nones R && R .states =? mostStates) ≡ false
+few-or-none R (withoutGaps none) = ap (λ b. b && R .states =? mostStates) (le-ltb 0 (nones R) (omega arith))
+few-or-none R (withGaps some few) =
+    let other : R .states ≡ mostStates → ⊥ = λ e. omega arith in
+    and-false-right (0 <? nones R) (ne-eqb (R .states) mostStates other)
+
 pub can-write : (file : List ℕ) (room : ℕ) → checkRule file ≡ given (ruleOf file) → Completable (ruleOf file)
     → completedLength (ruleOf file) ≤ room → completeCall file room ≡ given (nones (ruleOf file))
 unfolding completeCall completeCheck
@@ -120,12 +126,6 @@ can-write file room accepted can fits =
     giving-passes (λ S. completeCheck S room) accepted
     ∙ (refuse-passes 29 0 _ (few-or-none (ruleOf file) can)
     ∙ refuse-passes 14 _ _ (le-ltb room (completedLength (ruleOf file)) fits))
-  where
-    few-or-none : (R : Rule) → Completable R → (0 <? nones R && R .states =? mostStates) ≡ false
-    few-or-none R (withoutGaps none) = ap (λ b. b && R .states =? mostStates) (le-ltb 0 (nones R) (omega arith))
-    few-or-none R (withGaps some few) =
-        let other : R .states ≡ mostStates → ⊥ = λ e. omega arith in
-        and-false-right (0 <? nones R) (ne-eqb (R .states) mostStates other)
 
 -- ---- the file that was written
 
