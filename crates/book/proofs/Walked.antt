@@ -59,13 +59,13 @@ treeHas R u m p = goesTo p (treeMove R u m)
 module _ {file : List ℕ} {rule : Rule} (ok : RuleOf file rule) where
   pub start-goes : (w : ℕ) {found : tables.Move} → found ≡ moveIn TreeStart (rule .«tree_start»)
       → StandsFor w (λ p. goesTo p (moveSays found)) → StandsFor w (λ p. goesTo p (treeStartMove (ruleOf file)))
-  start-goes w read s = stands-as w _ _ (λ p h. ap (goesTo p) (start-is read)) s
+  start-goes w read s = stands-as w _ _ (λ p h. ap (goesTo p) (start-is ok read)) s
 
   -- all letters
   pub letters-walked : (q set : ℕ) → Walked (letterMove (ruleOf file) q) (rule .letters) set → StandsFor set (byLetters (ruleOf file) q)
   unfolding byLetters
   letters-walked q set s =
-      stands-as set _ _ (λ p h. ap (λ (k : ℕ). anyBelow k (λ a. goesTo p (letterMove (ruleOf file) q a))) (sym letters-are)) s
+      stands-as set _ _ (λ p h. ap (λ (k : ℕ). anyBelow k (λ a. goesTo p (letterMove (ruleOf file) q a))) (sym (letters-are ok))) s
 
   -- the members of a set of lower states, before the first: nothing is joined
   pub trees-first : (u lowers : ℕ) → lowers < 2 ^ 64 → StatesOf (rule .states) lowers
@@ -76,18 +76,18 @@ module _ {file : List ℕ} {rule : Rule} (ok : RuleOf file rule) where
       record {
         small = small;
         same = λ p h. ap (λ (b : Bool). b || anyBelow 64 (λ m. bit lowers m && goesTo p (treeMove R u m))) (bit-zero p)
-            ∙ members-below (rule .states) lowers (λ m. goesTo p (treeMove R u m)) few-states states
-            ∙ ap (λ (n : ℕ). anyBelow n (λ m. bit lowers m && goesTo p (treeMove R u m))) (sym states-are);
+            ∙ members-below (rule .states) lowers (λ m. goesTo p (treeMove R u m)) (few-states ok) states
+            ∙ ap (λ (n : ℕ). anyBelow n (λ m. bit lowers m && goesTo p (treeMove R u m))) (sym (states-are ok));
       }
 
   -- what the look with a lower state finds leads where that lower state does
   pub tree-goes : (u m w : ℕ) {found : tables.Move} → found ≡ moveIn TreeMoves (treeByte file (rule .states) (rule .letters) u m)
       → u < rule .states → m < rule .states → StandsFor w (λ p. goesTo p (moveSays found)) → StandsFor w (treeHas (ruleOf file) u m)
-  tree-goes u m w read hu hm s = stands-as w _ _ (λ p h. ap (goesTo p) (tree-is u m read hu hm)) s
+  tree-goes u m w read hu hm s = stands-as w _ _ (λ p h. ap (goesTo p) (tree-is ok u m read hu hm)) s
 
   -- all lower states gathered
   pub changes-gathered : (u set : ℕ) → StandsFor set (firstOf (rule .states) (λ p. not (noneOr u (treeMove (ruleOf file) u p))))
       → StandsFor set (changing (ruleOf file) u)
   unfolding changing
   changes-gathered u set s =
-      stands-as set _ _ (λ p h. ap (λ (n : ℕ). firstOf n (λ l. not (noneOr u (treeMove (ruleOf file) u l))) p) (sym states-are)) s
+      stands-as set _ _ (λ p h. ap (λ (n : ℕ). firstOf n (λ l. not (noneOr u (treeMove (ruleOf file) u l))) p) (sym (states-are ok))) s

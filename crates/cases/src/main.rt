@@ -1,5 +1,6 @@
 // The cases of document 01 that are not proved, and those of the requests: each call is made, and what it answers is printed.
 // The expected lines stand in the file stdout.
+mod completing;
 mod documents;
 mod ends;
 mod files;
@@ -21,4 +22,5 @@ fn main() {
     documents::full_case();
     missing::moves();
     readings::refusals();
+    completing::cases();
 }
