@@ -16,16 +16,17 @@ use Rattle.meaning.specs.Hedges.{Hedge, ε, _·_, ⟨_⟩·_, known, Goe
 use Rattle.meaning.specs.StreamingMachine.{Suffices}
 use Rattle.meaning.specs.SkipBook.{makeBook}
 use Rattle.meaning.specs.Skipping.{Zeros}
-use Rattle.meaning.specs.Calls.{Judged}
+use Rattle.meaning.specs.Calls.{Judged, largestCeiling, wholeDocument}
 use Rattle.meaning.specs.Demands.{FollowsAutomaton}
 use Rattle.meaning.specs.Completing.{NoGaps, VerdictBothWays}
 use Rattle.meaning.proofs.laws.Answered.{if-false, and-true}
 use Rattle.meaning.proofs.rulefile.Accepted.{accepted-is-rule}
 use Rattle.meaning.proofs.automaton.Nested.{nested-hedge}
-use Rattle.meaning.proofs.automaton.OfCalls.{full-verdict-exactly-if}
+use Rattle.meaning.proofs.automaton.OfCalls.{followed, full-verdict-exactly-if}
 use Rattle.meaning.proofs.skipbook.Reaching.{letter-below, tree-below, start-below, initial-below}
 use Rattle.meaning.proofs.stores.Whole.{maker-gave}
 use Rattle.meaning.proofs.demand3.Demand3Calls.{demand-3-by-calls}
+use Rattle.meaning.proofs.demand3.Document.{demand-3-document}
 use Rattle.meaning.proofs.laws.Entries.{entry-in}
 
 -- ---- every move is there
@@ -118,3 +119,14 @@ verdict-always file lent zeros store ceiling events whole made long empty nested
       full = reads;
       skipping = demand-3-by-calls file lent zeros store ceiling events made long empty reads;
     }
+
+-- So the whole-document call answers a verdict for every well-nested stream of known letters that fits.
+pub document-always : (file lent : List ℕ) (store : List Level) (events : List ℕ) {count : ℕ}
+    → NoGaps (ruleOf file) → makeBook file lent ≡ given count
+    → wellNested (ruleOf file .letters) events ≡ true → Suffices (length store) largestCeiling (freshRun (ruleOf file)) events
+    → (j : Judged) × (wholeDocument file lent store events .answer ≡ given j)
+document-always file lent store events whole made nested enough =
+    let rule = accepted-is-rule file (maker-gave file lent made .accepted) in
+    let end = follows-always rule whole (length store) largestCeiling events nested enough in
+    let full = followed (ruleOf file) (length store) largestCeiling events (end .0) (end .1) in
+    (end .0, demand-3-document file lent store made events (full .0) (full .1))
