@@ -62,6 +62,15 @@ mod exported {
             answer_length: usize,
         ) -> bool;
 
+        pub fn venticapro_complete(
+            file: *const u8,
+            file_length: usize,
+            output: *mut u8,
+            output_length: usize,
+            answer: *mut u64,
+            answer_length: usize,
+        ) -> bool;
+
         pub fn venticapro_fresh(
             file: *const u8,
             file_length: usize,
@@ -116,6 +125,21 @@ pub fn make_book(file: &[u8], book: &mut [u64], answer: &mut [u64]) -> bool {
             file.len(),
             book.as_mut_ptr(),
             book.len(),
+            answer.as_mut_ptr(),
+            answer.len(),
+        )
+    }
+}
+
+/// The tool that completes a rule. Value: the old rule's count of nones.
+pub fn complete(file: &[u8], output: &mut [u8], answer: &mut [u64]) -> bool {
+    // SAFETY: see the head of this file.
+    unsafe {
+        exported::venticapro_complete(
+            file.as_ptr(),
+            file.len(),
+            output.as_mut_ptr(),
+            output.len(),
             answer.as_mut_ptr(),
             answer.len(),
         )
