@@ -1,0 +1,4 @@
+-- A cell's class: the grammar and the way to decide it agree, what a number's value is, and what the months' table says.
+pub mod Fronts
+pub mod DigitLaws
+pub mod NumberLaws
