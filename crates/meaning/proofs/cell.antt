@@ -2,3 +2,8 @@
 pub mod Fronts
 pub mod DigitLaws
 pub mod NumberLaws
+pub mod MonthLaws
+pub mod DateLaws
+pub mod ClassLaws
+pub mod CallLaws
+pub mod Values

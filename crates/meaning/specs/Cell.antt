@@ -185,8 +185,12 @@ isNone (b ∷ bs) = false
 unfoldable pub isDigit : ℕ → Bool
 isDigit b = 0x30 ≤? b && b ≤? 0x39
 
+-- the capital letters A to Z, and the letters in either case
+unfoldable pub isCapital : ℕ → Bool
+isCapital b = 0x41 ≤? b && b ≤? 0x5A
+
 unfoldable pub isLetter : ℕ → Bool
-isLetter b = 0x41 ≤? capital b && capital b ≤? 0x5A
+isLetter b = isCapital (capital b)
 
 -- whether a minus or hyphen stands at the front, and what follows it
 unfoldable pub hasMinus : List ℕ → Bool
