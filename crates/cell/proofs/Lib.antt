@@ -1,0 +1,3 @@
+-- The laws that the proofs of this crate share.
+pub mod Runs
+pub mod MonthTables
