@@ -62,9 +62,9 @@ unfolding capital
 capital-case b =
     by-cases (0x61 ≤? b && b ≤? 0x7A)
     (λ t.
-      let low = leb-true 0x61 b (and-true (0x61 ≤? b) (b ≤? 0x7A) t .0) in
-      let is : capital b ≡ b - 32 = if-true (b - 32) b t in
-      inr (rw is (back b low)))
+    let low = leb-true 0x61 b (and-true (0x61 ≤? b) (b ≤? 0x7A) t .0) in
+    let is : capital b ≡ b - 32 = if-true (b - 32) b t in
+    inr (rw is (back b low)))
     (λ f. inl (if-false (b - 32) b f))
   where
     back : (b : ℕ) → 0x61 ≤ b → b - 32 + 32 ≡ b
@@ -106,6 +106,17 @@ goes-told {month} h g (firstThree e) =
     })
 goes-told h g (asSept m e) = rw (m, e) (record { row = sept-row; three = sept-three })
 
+zero-stays : capital 0 ≡ 0
+unfolding capital
+zero-stays = if-false _ 0 refl
+
+-- a letter of those at the front of a text, as a capital letter
+pub capital-at : (text : List ℕ) (count i : ℕ) → i < count → getD (map capital (take count text)) i 0 ≡ capital (getD text i 0)
+capital-at text count i h =
+    subst (λ (d : ℕ). getD (map capital (take count text)) i d ≡ capital (getD (take count text) i 0)) zero-stays
+    (List·getD-map capital (take count text) i 0)
+    ∙ ap capital (getD-take count text i 0 h)
+
 -- so have so many letters at the front of a text, in either case, if a month goes by them
 pub record Fronted (text : List ℕ) (count : ℕ) : Type 0 where
   pub row : rowOf (getD text 1 0) (getD text 2 0) ≡ monthNamed (map capital (take count text))
@@ -118,20 +129,18 @@ named-fronted text count fits h =
     let told = goes-told h (found .last) (found .goes) in
     let long : length name ≡ count = length-map (take count text) capital ∙ length-take-le count text fits in
     let three : 3 ≤ count = subst (λ (n : ℕ). 3 ≤ n) long (told .three) in
-    let letter = at text count in
+    let letter = capital-at text count in
     record {
       row = sym (row-case (getD text 1 0) (getD text 2 0)) ∙ rw (← letter 1 (omega arith), ← letter 2 (omega arith)) (told .row);
       three = three;
     }
-  where
-    zero-stays : capital 0 ≡ 0
-    zero-stays = unfold capital in if-false _ 0 refl
 
-    at : (text : List ℕ) (count i : ℕ) → i < count → getD (map capital (take count text)) i 0 ≡ capital (getD text i 0)
-    at text count i h =
-        subst (λ (d : ℕ). getD (map capital (take count text)) i d ≡ capital (getD (take count text) i 0)) zero-stays
-        (List·getD-map capital (take count text) i 0)
-        ∙ ap capital (getD-take count text i 0 h)
+pub no-month : (text : List ℕ) (count : ℕ) → (1 ≤ monthNamed (map capital (take count text)) → ⊥) → monthNamed (map capital (take count text)) ≡ 0
+no-month text count never = none (monthNamed (map capital (take count text))) never
+  where
+    none : (n : ℕ) → (1 ≤ n → ⊥) → n ≡ 0
+    none zero never = refl
+    none (suc n) never = absurd (never (omega arith))
 
 -- ---- by how many letters it goes
 
@@ -179,8 +188,8 @@ unfolding spelledLength
 goes-spelled month name h g =
     same-truth _ _ (λ e. spelled (goes-by month name e))
     (λ e.
-      let both = and-true (spelledLength month (length name)) (same name (take (length name) (nameOf month))) e in
-      by-goes (goes (lengths month (length name) (both .0)) (same-true name (take (length name) (nameOf month)) (both .1))))
+    let both = and-true (spelledLength month (length name)) (same name (take (length name) (nameOf month))) e in
+    by-goes (goes (lengths month (length name) (both .0)) (same-true name (take (length name) (nameOf month)) (both .1))))
   where
     spelled : GoesBy month name → (spelledLength month (length name) && same name (take (length name) (nameOf month))) ≡ true
     spelled (inFull e) =

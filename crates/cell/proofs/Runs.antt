@@ -74,13 +74,13 @@ grown-low n [] h = refl
 grown-low n (b ∷ bs) h =
     by-cases (n ≤? mostWhole)
     (λ t.
-      let same = grown-more n b (leb-true n mostWhole t) in
-      subst (λ (m : ℕ). grownOn m bs ≡ readOn (n * 10 + (b - 0x30)) bs) (sym same)
-      (grown-low (n * 10 + (b - 0x30)) bs (subst (λ (m : ℕ). grownOn m bs ≤ mostWhole) same h)))
+    let same = grown-more n b (leb-true n mostWhole t) in
+    subst (λ (m : ℕ). grownOn m bs ≡ readOn (n * 10 + (b - 0x30)) bs) (sym same)
+    (grown-low (n * 10 + (b - 0x30)) bs (subst (λ (m : ℕ). grownOn m bs ≤ mostWhole) same h)))
     (λ f.
-      let above = leb-false n mostWhole f in
-      let stays = grown-all n (b ∷ bs) above in
-      absurd (omega arith))
+    let above = leb-false n mostWhole f in
+    let stays = grown-all n (b ∷ bs) above in
+    absurd (omega arith))
 
 pub grown-high : (n : ℕ) (bs : List ℕ) → mostWhole < grownOn n bs → mostWhole < readOn n bs
 unfolding grownOn readOn
@@ -88,12 +88,12 @@ grown-high n [] h = h
 grown-high n (b ∷ bs) h =
     by-cases (n ≤? mostWhole)
     (λ t.
-      let same = grown-more n b (leb-true n mostWhole t) in
-      grown-high (n * 10 + (b - 0x30)) bs (subst (λ (m : ℕ). mostWhole < grownOn m bs) same h))
+    let same = grown-more n b (leb-true n mostWhole t) in
+    grown-high (n * 10 + (b - 0x30)) bs (subst (λ (m : ℕ). mostWhole < grownOn m bs) same h))
     (λ f.
-      let above = leb-false n mostWhole f in
-      let more = read-grows n (b ∷ bs) in
-      omega arith)
+    let above = leb-false n mostWhole f in
+    let more = read-grows n (b ∷ bs) in
+    omega arith)
 
 pub grown-append : (n : ℕ) (bs cs : List ℕ) → grownOn n (bs ++ cs) ≡ grownOn (grownOn n bs) cs
 unfolding grownOn

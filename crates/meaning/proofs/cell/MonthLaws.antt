@@ -82,7 +82,7 @@ goes-right h g (asSept m e) = rw (m, e) (right-says 9 sept and-sept)
 
 -- ---- the month that is found goes by the name
 
-goes-by : (month : ℕ) (name : List ℕ) → goesBy month (nameOf month) name ≡ true → GoesBy month name
+pub goes-by : (month : ℕ) (name : List ℕ) → goesBy month (nameOf month) name ≡ true → GoesBy month name
 unfolding goesBy
 goes-by month name e = go (or-cases (same name (nameOf month) || same name (take 3 (nameOf month))) (month =? 9 && same name sept) e)
   where
@@ -96,6 +96,13 @@ goes-by month name e = go (or-cases (same name (nameOf month) || same name (take
         let both = and-true (month =? 9) (same name sept) t in
         asSept (eqb-true month 9 (both .0)) (same-true name sept (both .1))
 
+pub by-goes : {month : ℕ} {name : List ℕ} → GoesBy month name → goesBy month (nameOf month) name ≡ true
+unfolding goesBy
+by-goes (inFull e) = or-true-left _ (or-true-left _ (same-equal e))
+by-goes {month} {name} (firstThree e) = or-true-left _ (or-true-right (same name (nameOf month)) (same-equal e))
+by-goes {month} {name} (asSept m e) =
+    or-true-right (same name (nameOf month) || same name (take 3 (nameOf month))) (both-true (eq-eqb month 9 m) (same-equal e))
+
 -- the place among some months at which one was found
 found-at : (k : ℕ) (wholes : List (List ℕ)) (name : List ℕ) → 1 ≤ monthFrom k wholes name
     → (i : ℕ) × (i < length wholes) × (monthFrom k wholes name ≡ k + i) × (goesBy (k + i) (getD wholes i []) name ≡ true)
@@ -105,11 +112,11 @@ found-at k (whole ∷ wholes) name h =
     by-cases (goesBy k whole name)
     (λ t. let none : k + 0 ≡ k = omega arith in (0, omega arith, if-true k (monthFrom (suc k) wholes name) t ∙ sym none, rw none t))
     (λ f.
-      let here = if-false k (monthFrom (suc k) wholes name) f in
-      let rest = found-at (suc k) wholes name (subst (λ (m : ℕ). 1 ≤ m) here h) in
-      let i = rest .0 in
-      let more : k + suc i ≡ suc k + i = omega arith in
-      (suc i, omega arith, here ∙ rest .2 ∙ sym more, rw more (rest .3)))
+    let here = if-false k (monthFrom (suc k) wholes name) f in
+    let rest = found-at (suc k) wholes name (subst (λ (m : ℕ). 1 ≤ m) here h) in
+    let i = rest .0 in
+    let more : k + suc i ≡ suc k + i = omega arith in
+    (suc i, omega arith, here ∙ rest .2 ∙ sym more, rw more (rest .3)))
 
 pub record Found (month : ℕ) (name : List ℕ) : Type 0 where
   pub last : month ≤ 12

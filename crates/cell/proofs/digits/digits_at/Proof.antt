@@ -38,7 +38,7 @@ unfolding grownOn
 digit-on text from start value i new inv h e more =
     let run = run-on isDigit text i h e in
     let at : i + length (getD text i 0 ∷ front isDigit (drop (i + 1) text)) ≡ from + length (front isDigit (drop from text)) =
-        ap (λ (l : List ℕ). i + length l) (sym run) ∙ inv .1 in
+    ap (λ (l : List ℕ). i + length l) (sym run) ∙ inv .1 in
     (rw more (ap (grownOn value) (sym run) ∙ inv .0), omega arith)
 
 loop-holds : tie.Need-loop-holds Inv-loop μ-loop

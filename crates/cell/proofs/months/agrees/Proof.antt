@@ -1,38 +1,111 @@
+-- `cell::months::agrees` meets its contract. The loop's invariant: the letters that are left are the same exactly if all are. The
+-- measure is how many are left.
+-- Assumes nothing.
+use mathlib.Core.Path.{_≡_, refl, sym, ap, _∙_, subst}
+use mathlib.Core.Bool.{Bool, true, false, _&&_}
+use mathlib.Core.List.{List, [], _∷_, map}
+use Prim.Native.Nat.{ℕ, suc, _+_, _-_, _≤_, _<_}
+use native.Mathlib.Numerals.{add-one}
+use native.Mathlib.Omega.{arith}
+use lib.ListN.{length, getD, take, drop, length-map, drop-of-length-le}
+use lib.Seq.{length-take-le, getD-take, drop-cons}
+use borrow.Author.Needs.{needs}
+use borrow.Author.Tests.{eq-eqb, ne-eqb}
+use denote.Ref.{now}
+use Rattle.meaning.specs.Answers.{_=?_}
+use Rattle.meaning.specs.Cell.{capital, nameOf, same}
+use Rattle.cell.proofs.MonthTables.{month-row, capital-at}
 use Rattle.cell.proofs.months.agrees.Statement.{statement}
 use Rattle.cell.proofs.months.agrees.Tie as tie
 
+-- the letters and the name's, so many of each
+abbrev letters : List ℕ → ℕ → List ℕ
+letters text count = map capital (take count text)
+
+abbrev named : ℕ → ℕ → List ℕ
+named month count = take count (nameOf month)
+
 abbrev Inv-loop : tie.InvT-loop
-Inv-loop text count month i₀ i = ?
+Inv-loop text count month i₀ i =
+    (i ≤ count) × (same (drop i (letters text count)) (drop i (named month count)) ≡ same (letters text count) (named month count))
 
 abbrev μ-loop : tie.MeasureT-loop
-μ-loop text count month i₀ i = ?
+μ-loop text count month i₀ i = count - i
+
+module _ (text : List ℕ) (count month : ℕ) (inText : count ≤ length text) (inName : count ≤ length (nameOf month)) where
+  long : length (letters text count) ≡ count
+  long = length-map (take count text) capital ∙ length-take-le count text inText
+
+  long-name : length (named month count) ≡ count
+  long-name = length-take-le count (nameOf month) inName
+
+  -- one letter of each, and the rest
+  one-on : (i : ℕ) → i < count
+      → same (drop i (letters text count)) (drop i (named month count))
+      ≡ (capital (getD text i 0) =? getD (nameOf month) i 0 && same (drop (i + 1) (letters text count)) (drop (i + 1) (named month count)))
+  unfolding same
+  one-on i h =
+      let first = drop-cons (letters text count) i 0 (rw long h) ∙ ap (λ (b : ℕ). b ∷ drop (suc i) (letters text count)) (capital-at text count i h) in
+      let second = drop-cons (named month count) i 0 (rw long-name h) ∙ ap (λ (b : ℕ). b ∷ drop (suc i) (named month count)) (getD-take count (nameOf month) i 0 h) in
+      rw (first, second, add-one i)
+
+  all-passed : (i : ℕ) → count ≤ i → same (drop i (letters text count)) (drop i (named month count)) ≡ true
+  unfolding same
+  all-passed i h =
+      let first = drop-of-length-le (letters text count) {i = i} (rw long h) in
+      let second = drop-of-length-le (named month count) {i = i} (rw long-name h) in
+      rw (first, second)
 
 loop-holds : tie.Need-loop-holds Inv-loop μ-loop
-loop-holds c = ?
+loop-holds c = (omega arith, refl)
 
 shared-slice-read-capital : tie.Need-shared-slice-read-capital Inv-loop μ-loop
-shared-slice-read-capital c = ?
+shared-slice-read-capital c = let pre = c .before .before .before .before .pre in omega arith
 
 capital-requires : tie.Need-capital-requires Inv-loop μ-loop
-capital-requires c κs = ?
+capital-requires c κs = tt
 
 name-byte-requires : tie.Need-name-byte-requires Inv-loop μ-loop
-name-byte-requires c κs = ?
+name-byte-requires c κs =
+    let pre = c .before .before .before .before .before .pre in
+    let row = month-row (c .before .before .before .before .before .args .month) (pre .0) (pre .1) in
+    (pre .0, pre .1, omega arith)
 
 returns : tie.Need-returns Inv-loop μ-loop
-returns c = ?
+returns c =
+    let a = c .before .before .before .before .before .before .before .args in
+    let pre = c .before .before .before .before .before .before .before .pre in
+    let l = c .before .before .before .before .before .loop in
+    let s = now (a .text) in
+    let off : (capital (getD s (l .i) 0) =? getD (nameOf (a .month)) (l .i) 0) ≡ false =
+    ne-eqb (capital (getD s (l .i) 0)) (getD (nameOf (a .month)) (l .i) 0)
+    (λ e. c .if1 .taken (c .before .before .capital .ensures ∙ e ∙ sym (c .before .name-byte .ensures))) in
+    sym (sym (l .inv .1) ∙ one-on s (a .count) (a .month) (pre .2) (pre .3) (l .i) (omega arith) ∙ rw off)
 
 add-i : tie.Need-add-i Inv-loop μ-loop
-add-i c = ?
+add-i c = omega arith
 
 loop-less : tie.Need-loop-less Inv-loop μ-loop
-loop-less c = ?
+loop-less c = omega arith
 
 loop-again : tie.Need-loop-again Inv-loop μ-loop
-loop-again c = ?
+loop-again c =
+    let a = c .before .before .before .before .before .before .before .args in
+    let pre = c .before .before .before .before .before .before .before .pre in
+    let l = c .before .before .before .before .before .loop in
+    let s = now (a .text) in
+    let on : (capital (getD s (l .i) 0) =? getD (nameOf (a .month)) (l .i) 0) ≡ true =
+    eq-eqb (capital (getD s (l .i) 0)) (getD (nameOf (a .month)) (l .i) 0)
+    (sym (c .before .before .capital .ensures) ∙ c .if1 .left ∙ c .before .name-byte .ensures) in
+    let rest = same (drop (l .i + 1) (letters s (a .count))) (drop (l .i + 1) (named (a .month) (a .count))) in
+    (omega arith, sym (ap (λ (t : Bool). t && rest) on) ∙ sym (one-on s (a .count) (a .month) (pre .2) (pre .3) (l .i) (omega arith)) ∙ l .inv .1)
 
 returns-2 : tie.Need-returns-2 Inv-loop μ-loop
-returns-2 c = ?
+returns-2 c =
+    let a = c .before .before .before .args in
+    let pre = c .before .before .before .pre in
+    let l = c .before .loop in
+    sym (sym (l .inv .1) ∙ all-passed (now (a .text)) (a .count) (a .month) (pre .2) (pre .3) (l .i) (omega arith))
 
 pub agrees-spec : {M : Type 1} → statement M
 agrees-spec =

@@ -24,7 +24,7 @@ unfolding capital
 returns-2 c =
     let b = c .before .args .b in
     let other : (0x61 ≤? b && b ≤? 0x7A) ≡ false =
-        ⊎-elim (λ w. and-false-right (0x61 ≤? b) (w .1 .left)) (λ w. rw (lt-leb 0x61 b (w .left))) (c .if1 .came) in
+    ⊎-elim (λ w. and-false-right (0x61 ≤? b) (w .1 .left)) (λ w. rw (lt-leb 0x61 b (w .left))) (c .if1 .came) in
     sym (if-false _ _ other)
 
 pub capital-spec : {M : Type 1} → statement M

@@ -35,7 +35,7 @@ unfolding classSays madeNumber
 returns-3 c =
     let a = c .before .before .before .before .args in
     let other : (a .minus && a .value =? 0) ≡ false =
-        ⊎-elim (λ w. and-false-right (a .minus) (w .1 .left)) (λ w. rw (w .left)) (c .before .before .if2 .came) in
+    ⊎-elim (λ w. and-false-right (a .minus) (w .1 .left)) (λ w. rw (w .left)) (c .before .before .if2 .came) in
     sym
     (if-false _ _ (le-ltb mostWhole (a .value) (c .before .before .before .if1 .left))
     ∙ if-false _ _ other

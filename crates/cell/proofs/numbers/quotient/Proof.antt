@@ -22,7 +22,7 @@ int-to-float-power : tie.Need-int-to-float-power
 unfolding inFloat
 int-to-float-power c =
     let h : c .before .power-of-ten .result ≤ mostWhole =
-        rw (c .before .power-of-ten .ensures) (power-small (c .before .before .before .args .decimals) (c .before .before .before .pre .1)) in
+    rw (c .before .power-of-ten .ensures) (power-small (c .before .before .before .args .decimals) (c .before .before .before .pre .1)) in
     le→leb (c .before .power-of-ten .result) mostWhole h
 
 returns : tie.Need-returns

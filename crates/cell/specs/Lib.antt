@@ -1,0 +1,3 @@
+pub mod Says
+pub mod Digits
+pub mod Rows

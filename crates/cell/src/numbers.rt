@@ -1,0 +1,102 @@
+// A number: its digits are one whole number, divided once by a power of ten.
+use crate::Class;
+use crate::digits::MOST_WHOLE;
+use crate::digits::digits_at;
+use crate::digits::minus_at;
+use crate::digits::unpadded;
+ghost use mathlib.Core.Path.{_≡_};
+ghost use Prim.Native.Nat.{_≤_, _^_};
+ghost use Rattle.meaning.specs.Cell.{mostWhole, mostDecimals, divided, negatedIf};
+ghost use Rattle.cell.specs.Says.{classSays, numberOrText, madeNumber};
+
+// The most digits after the point.
+const MOST_DECIMALS: usize = 15;
+
+// The powers of ten, from 10^0 to 10^15.
+const POWERS: [u64; 16] = [
+    1,
+    10,
+    100,
+    1_000,
+    10_000,
+    100_000,
+    1_000_000,
+    10_000_000,
+    100_000_000,
+    1_000_000_000,
+    10_000_000_000,
+    100_000_000_000,
+    1_000_000_000_000,
+    10_000_000_000_000,
+    100_000_000_000_000,
+    1_000_000_000_000_000,
+];
+
+fn power_of_ten(decimals: usize) -> u64
+    requires { ⌜ decimals ≤ mostDecimals ⌝ }
+    ensures { λ r. ⌜ r ≡ 10 ^ decimals ⌝ }
+{
+    POWERS[decimals]
+}
+
+// A whole number divided once by a power of ten, both exact in 64-bit floating point.
+fn quotient(value: u64, decimals: usize) -> f64
+    requires { ⌜ (value ≤ mostWhole) × (decimals ≤ mostDecimals) ⌝ }
+    ensures { λ r. ⌜ r ≡ divided value decimals ⌝ }
+{
+    let whole = value as f64;
+    let power = power_of_ten(decimals) as f64;
+    whole / power
+}
+
+fn negated_if(minus: bool, x: f64) -> f64
+    ensures { λ r. ⌜ r ≡ negatedIf minus x ⌝ }
+{
+    if minus { -x } else { x }
+}
+
+// The number of a whole number and its decimals, if the whole number is not too large and it is not minus zero.
+fn made(minus: bool, value: u64, decimals: usize) -> Class
+    requires { ⌜ decimals ≤ mostDecimals ⌝ }
+    ensures { λ r. ⌜ classSays r ≡ madeNumber minus value decimals ⌝ }
+{
+    if MOST_WHOLE < value {
+        return Class::Text;
+    }
+    if minus && value == 0 {
+        return Class::Text;
+    }
+    Class::Number(negated_if(minus, quotient(value, decimals)))
+}
+
+// The number that a text is, or text.
+pub(crate) fn number_in(text: &[u8]) -> Class
+    ensures { λ r. ⌜ classSays r ≡ numberOrText (now (text .entry)) ⌝ }
+{
+    let start = minus_at(text, 0);
+    let minus = start == 1;
+    let whole = digits_at(text, start, 0);
+    let end = whole.end;
+    if !unpadded(text, start, end - start) {
+        return Class::Text;
+    }
+    if end == text.len() {
+        return made(minus, whole.value, 0);
+    }
+    if text[end] != b'.' {
+        return Class::Text;
+    }
+    let first = end + 1;
+    let all = digits_at(text, first, whole.value);
+    let last = all.end;
+    if last == first {
+        return Class::Text;
+    }
+    if last != text.len() {
+        return Class::Text;
+    }
+    if MOST_DECIMALS < last - first {
+        return Class::Text;
+    }
+    made(minus, all.value, last - first)
+}
