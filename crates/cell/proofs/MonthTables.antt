@@ -70,6 +70,14 @@ capital-case b =
     back : (b : ℕ) → 0x61 ≤ b → b - 32 + 32 ≡ b
     back b h = omega arith
 
+-- small and capital letters are the same in 32s
+case-32 : (b : ℕ) → capital b % 32 ≡ b % 32
+case-32 b = go (capital b) (capital-case b)
+  where
+    go : (x : ℕ) → (x ≡ b) ⊎ (x + 32 ≡ b) → x % 32 ≡ b % 32
+    go x (inl p) = omega arith
+    go x (inr p) = omega arith
+
 pub row-case : (b c : ℕ) → rowOf (capital b) (capital c) ≡ rowOf b c
 unfolding rowOf
 row-case b c = ap (λ (k : ℕ). getD rows k 0) (go (capital b) (capital c) (capital-case b) (capital-case c))
@@ -86,25 +94,31 @@ sept-row : rowOf (getD sept 1 0) (getD sept 2 0) ≡ 9
 unfolding rowOf sept
 sept-row = refl
 
+sept-first : getD sept 0 0 ≡ getD (nameOf 9) 0 0
+unfolding sept nameOf months
+sept-first = refl
+
 sept-three : 3 ≤ length sept
 unfolding sept
 sept-three = omega arith
 
 pub record Told (month : ℕ) (name : List ℕ) : Type 0 where
   pub row : rowOf (getD name 1 0) (getD name 2 0) ≡ month
+  pub first : getD name 0 0 ≡ getD (nameOf month) 0 0
   pub three : 3 ≤ length name
 
 pub goes-told : {month : ℕ} {name : List ℕ} → 1 ≤ month → month ≤ 12 → GoesBy month name → Told month name
-goes-told {month} h g (inFull e) = let r = month-row month h g in rw e (record { row = r .row; three = r .three })
+goes-told {month} h g (inFull e) = let r = month-row month h g in rw e (record { row = r .row; first = refl; three = r .three })
 goes-told {month} h g (firstThree e) =
     let r = month-row month h g in
     let n = nameOf month in
     rw e
     (record {
       row = rw (getD-take 3 n 1 0 (omega arith), getD-take 3 n 2 0 (omega arith)) (r .row);
+      first = getD-take 3 n 0 0 (omega arith);
       three = rw (length-take-le 3 n (r .three)) (omega arith);
     })
-goes-told h g (asSept m e) = rw (m, e) (record { row = sept-row; three = sept-three })
+goes-told h g (asSept m e) = rw (m, e) (record { row = sept-row; first = sept-first; three = sept-three })
 
 zero-stays : capital 0 ≡ 0
 unfolding capital
@@ -120,6 +134,7 @@ capital-at text count i h =
 -- so have so many letters at the front of a text, in either case, if a month goes by them
 pub record Fronted (text : List ℕ) (count : ℕ) : Type 0 where
   pub row : rowOf (getD text 1 0) (getD text 2 0) ≡ monthNamed (map capital (take count text))
+  pub first : getD text 0 0 % 32 ≡ getD (nameOf (monthNamed (map capital (take count text)))) 0 0 % 32
   pub three : 3 ≤ count
 
 pub named-fronted : (text : List ℕ) (count : ℕ) → count ≤ length text → 1 ≤ monthNamed (map capital (take count text)) → Fronted text count
@@ -132,6 +147,7 @@ named-fronted text count fits h =
     let letter = capital-at text count in
     record {
       row = sym (row-case (getD text 1 0) (getD text 2 0)) ∙ rw (← letter 1 (omega arith), ← letter 2 (omega arith)) (told .row);
+      first = sym (case-32 (getD text 0 0)) ∙ ap (λ (b : ℕ). b % 32) (sym (letter 0 (omega arith)) ∙ told .first);
       three = three;
     }
 

@@ -2,7 +2,7 @@
 ghost use mathlib.Core.Path.{_≡_};
 ghost use mathlib.Core.Bool.{false};
 ghost use mathlib.Core.List.{map};
-ghost use Prim.Native.Nat.{_<_, _≤_};
+ghost use Prim.Native.Nat.{_%_, _≤_};
 ghost use lib.ListN.{length, getD, take};
 ghost use Rattle.meaning.specs.Cell.{front, isLetter, capital, same, nameOf, goesBy, monthNamed};
 ghost use Rattle.cell.specs.Rows.{rowOf, spelledLength};
@@ -27,9 +27,14 @@ const NAME_PLACES: usize = 9;
 const LENGTHS: [u8; 12] = *b"\x07\x08\x05\x05\x03\x04\x04\x06\x09\x07\x08\x08";
 
 // The second and the third letter of a name tell its month: at their sum, counted in 32s, stands its number, and elsewhere 0.
-// A small letter is 32 above its capital letter, so the sum does not ask for the case.
-const ROWS: [u8; 32] = *b"\x00\x07\x04\x06\x00\x0B\x00\x02\x0C\x00\x00\x00\x00\x00\x00\x01\
-    \x00\x00\x00\x03\x00\x09\x00\x0A\x00\x00\x05\x00\x08\x00\x00\x00";
+// A small letter is 32 above its capital letter, so the sum does not ask for the case. The numbers are four bits each, sixteen to
+// a word: a word is at hand at once, where a table would be laid down anew at every call.
+const ROWS: u64 = 0x1000_000C_20B0_6470;
+
+const ROWS_FROM_16: u64 = 0x0008_0500_A090_3000;
+
+// The first letter of each name, counted in 32s, five bits each from January on.
+const FIRSTS: u64 = 0x0239_F30A_94D0_B4CA;
 
 const SEPTEMBER: u8 = 9;
 
@@ -43,15 +48,17 @@ pub fn capital(b: u8) -> u8
 fn row(second: u8, third: u8) -> u8
     ensures { λ r. ⌜ r ≡ rowOf second third ⌝ }
 {
-    ROWS[(second as usize + third as usize) % 32]
+    let at = (second as usize + third as usize) % 32;
+    let word = if at < 16 { ROWS } else { ROWS_FROM_16 };
+    ((word >> (4 * (at % 16))) % 16) as u8
 }
 
-// A letter of a month's name, or 0 past its end.
-fn name_byte(month: u8, i: usize) -> u8
-    requires { ⌜ (1 ≤ month) × (month ≤ 12) × (i < 9) ⌝ }
-    ensures { λ r. ⌜ r ≡ getD (nameOf month) i 0 ⌝ }
+// The first letter of a month's name, counted in 32s.
+fn first_letter(month: u8) -> u8
+    requires { ⌜ (1 ≤ month) × (month ≤ 12) ⌝ }
+    ensures { λ r. ⌜ r ≡ getD (nameOf month) 0 0 % 32 ⌝ }
 {
-    NAMES[(month as usize - 1) * NAME_PLACES + i]
+    ((FIRSTS >> (5 * (month as usize - 1))) % 32) as u8
 }
 
 fn name_length(month: u8) -> usize
@@ -66,9 +73,11 @@ fn agrees(text: &[u8], count: usize, month: u8) -> bool
     requires { ⌜ (1 ≤ month) × (month ≤ 12) × (count ≤ length (now text)) × (count ≤ length (nameOf month)) ⌝ }
     ensures { λ r. ⌜ r ≡ same (map capital (take count (now (text .entry)))) (take count (nameOf month)) ⌝ }
 {
+    let names = NAMES;
+    let start = (month as usize - 1) * NAME_PLACES;
     let mut i = 0;
     while i < count {
-        if capital(text[i]) != name_byte(month, i) {
+        if capital(text[i]) != names[start + i] {
             return false;
         }
         i += 1;
@@ -127,5 +136,9 @@ pub fn may_begin(text: &[u8]) -> bool
     if text.len() < 3 {
         return false;
     }
-    row(text[1], text[2]) != 0
+    let month = row(text[1], text[2]);
+    if month == 0 {
+        return false;
+    }
+    text[0] % 32 == first_letter(month)
 }

@@ -5,38 +5,45 @@ use crate::digits::digits_at;
 use crate::digits::minus_at;
 use crate::digits::unpadded;
 ghost use mathlib.Core.Path.{_≡_};
-ghost use Prim.Native.Nat.{_≤_, _^_};
+ghost use Prim.Native.Nat.{_≤_, _*_, _^_};
 ghost use Rattle.meaning.specs.Cell.{mostWhole, mostDecimals, divided, negatedIf};
 ghost use Rattle.cell.specs.Says.{classSays, numberOrText, madeNumber};
 
 // The most digits after the point.
 const MOST_DECIMALS: usize = 15;
 
-// The powers of ten, from 10^0 to 10^15.
-const POWERS: [u64; 16] = [
-    1,
-    10,
-    100,
-    1_000,
-    10_000,
-    100_000,
-    1_000_000,
-    10_000_000,
-    100_000_000,
-    1_000_000_000,
-    10_000_000_000,
-    100_000_000_000,
-    1_000_000_000_000,
-    10_000_000_000_000,
-    100_000_000_000_000,
-    1_000_000_000_000_000,
-];
+// 10^0 to 10^3.
+fn ten_to(count: usize) -> u64
+    requires { ⌜ count ≤ 3 ⌝ }
+    ensures { λ r. ⌜ r ≡ 10 ^ count ⌝ }
+{
+    match count {
+        0 => 1,
+        1 => 10,
+        2 => 100,
+        _ => 1_000,
+    }
+}
 
+// 10^0, 10^4, 10^8 and 10^12.
+fn ten_to_fours(count: usize) -> u64
+    requires { ⌜ count ≤ 3 ⌝ }
+    ensures { λ r. ⌜ r ≡ 10 ^ (4 * count) ⌝ }
+{
+    match count {
+        0 => 1,
+        1 => 10_000,
+        2 => 100_000_000,
+        _ => 1_000_000_000_000,
+    }
+}
+
+// A power of ten, as a product: a table would be laid down anew at every call.
 fn power_of_ten(decimals: usize) -> u64
     requires { ⌜ decimals ≤ mostDecimals ⌝ }
     ensures { λ r. ⌜ r ≡ 10 ^ decimals ⌝ }
 {
-    POWERS[decimals]
+    ten_to_fours(decimals / 4) * ten_to(decimals % 4)
 }
 
 // A whole number divided once by a power of ten, both exact in 64-bit floating point.

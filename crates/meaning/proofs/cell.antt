@@ -7,3 +7,4 @@ pub mod DateLaws
 pub mod ClassLaws
 pub mod CallLaws
 pub mod Values
+pub mod Given

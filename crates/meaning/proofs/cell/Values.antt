@@ -10,8 +10,8 @@ use lib.ListN.{length}
 use lib.IntN.{ℤ, pos}
 use lib.Dec.{T, ltb, eqb, lit≤}
 use borrow.Author.Tests.{leb-true, ne-eqb}
-use lib.Ieee.{Float, nan, inf, fin, Format, binary64, up, down, low, emax, prec, odd, units, round, ofInt, div, neg, isNan, unlike}
-use lib.Ieee.Fits.{up-pos, down-pos, round-is}
+use lib.Ieee.{Float, nan, inf, fin, Format, binary64, up, down, low, emax, prec, odd, units, round, ofInt, div, neg, isNan, fits}
+use lib.Ieee.Fits.{up-pos, down-pos, round-is, round-fits}
 use lib.Ieee.Exact.{HasValue}
 use lib.Ieee.Back.{round-whole}
 use lib.Ieee.Scale.{round-same}
@@ -115,6 +115,12 @@ value-nearest n is = go (n .minus)
     go : (m : Bool) → negatedIf m (divided (allDigits n) (length (n .decimals))) ≡ round binary64 m (allDigits n) (10 ^ length (n .decimals))
     go true = unfold negatedIf in ap neg once ∙ neg-round binary64 (allDigits n) (10 ^ length (n .decimals))
     go false = unfold negatedIf in once
+
+-- a 64-bit number, in the one way in which the library writes it
+pub value-fits : (n : Number) → IsNumber n → T (fits binary64 (valueOf n))
+value-fits n is =
+    subst (λ (x : Float). T (fits binary64 x)) (sym (value-nearest n is))
+    (round-fits binary64 (n .minus) (allDigits n) (10 ^ length (n .decimals)))
 
 -- ---- it is a number: never a NaN, whose bits a host could not be told
 
