@@ -1,4 +1,5 @@
-//! A second reading of document 01, written from the paper alone.
+//! A second reading of document 01 and of the requests in document 02, written
+//! from the papers alone.
 //!
 //! It serves only for comparison: plain safe code, tables in vectors, sets as
 //! sets, Reach by a walk over a graph. Readings are answered in three ways that
@@ -17,6 +18,7 @@
 
 pub mod book;
 pub mod calls;
+pub mod cell;
 pub mod check;
 pub mod hedge;
 pub mod numbers;

@@ -1,4 +1,5 @@
-//! The numbers of "Calls and numbers", and a number with its place.
+//! The numbers of "Calls and numbers" and of document 02, and a number with its
+//! place.
 
 use std::fmt;
 
@@ -36,6 +37,10 @@ pub const OUTPUT_SHORT: u8 = 14;
 pub const ROUNDS: u8 = 15;
 /// 4,294,967,295 events already taken; place: the event.
 pub const EVENTS_USED_UP: u8 = 16;
+/// A cell's text is too long; place 0.
+pub const CELL_TOO_LONG: u8 = 23;
+/// A byte of a cell's text is above 127; place: the byte.
+pub const NOT_ASCII: u8 = 24;
 
 /// A number with its place.
 #[derive(Clone, Copy, Debug, PartialEq, Eq, Hash)]
