@@ -7,6 +7,8 @@
 
 #![forbid(unsafe_code)]
 
+#[cfg(feature = "cell")]
+mod cells;
 mod disagreements;
 mod linked;
 mod program;
@@ -47,6 +49,8 @@ fn compare(count: u64, seed: u64, command: &[String], tally: &mut Tally) -> Resu
         program::run(count, seed, path, words, tally)?;
     }
     linked::run(count, seed, tally)?;
+    #[cfg(feature = "cell")]
+    cells::run(count, seed, host::cell, tally)?;
     tally.print();
     tally.check(count)
 }

@@ -1,9 +1,10 @@
-//! Inputs from a seed: random rules, streams of events, damaged files, and the
+//! Inputs from a seed: random rules, streams of events, damaged files, cells, and the
 //! cases printed in document 01.
 
 #![forbid(unsafe_code)]
 
 pub mod calls;
+pub mod cells;
 pub mod damage;
 pub mod events;
 pub mod inputs;

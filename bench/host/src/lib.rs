@@ -62,6 +62,14 @@ mod exported {
             answer_length: usize,
         ) -> bool;
 
+        #[cfg(feature = "cell")]
+        pub fn venticapro_cell(
+            text: *const u8,
+            text_length: usize,
+            answer: *mut u64,
+            answer_length: usize,
+        ) -> bool;
+
         pub fn venticapro_fresh(
             file: *const u8,
             file_length: usize,
@@ -127,5 +135,15 @@ pub fn fresh(file: &[u8], answer: &mut [u64]) -> bool {
     // SAFETY: see the head of this file.
     unsafe {
         exported::venticapro_fresh(file.as_ptr(), file.len(), answer.as_mut_ptr(), answer.len())
+    }
+}
+
+/// The class of a cell's text. Values: the class (0 text, 1 number, 2 date
+/// look-alike), the value's bits, the month and the day.
+#[cfg(feature = "cell")]
+pub fn cell(text: &[u8], answer: &mut [u64]) -> bool {
+    // SAFETY: see the head of this file.
+    unsafe {
+        exported::venticapro_cell(text.as_ptr(), text.len(), answer.as_mut_ptr(), answer.len())
     }
 }

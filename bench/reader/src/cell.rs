@@ -104,11 +104,7 @@ impl Decimal {
     /// The number that a text is, if it is one.
     pub fn read(text: &[u8]) -> Option<Decimal> {
         let mut at = At::Start;
-        let mut decimal = Decimal {
-            minus: false,
-            digits: Vec::new(),
-            decimals: 0,
-        };
+        let mut decimal = Decimal { minus: false, digits: Vec::new(), decimals: 0 };
         for &byte in text {
             at = match (at, byte) {
                 (At::Start, b'-') => At::Minus,
