@@ -8,3 +8,4 @@ pub mod ClassLaws
 pub mod CallLaws
 pub mod Values
 pub mod Given
+pub mod NearestOfAll

@@ -42,7 +42,7 @@ powers-some : allBelow 16 (λ k. 1 ≤? 10 ^ k) ≡ true
 unfolding allBelow
 powers-some = refl
 
-power-some : (k : ℕ) → k ≤ mostDecimals → 1 ≤ 10 ^ k
+pub power-some : (k : ℕ) → k ≤ mostDecimals → 1 ≤ 10 ^ k
 power-some k h = leb-true 1 (10 ^ k) (all-below 16 (λ k. 1 ≤? 10 ^ k) powers-some k (omega arith))
 
 -- ---- the division of two whole numbers that are exact rounds their fraction
