@@ -9,3 +9,4 @@ pub mod CallLaws
 pub mod Values
 pub mod Given
 pub mod NearestOfAll
+pub mod Printed

@@ -1,5 +1,6 @@
 -- That a value is the nearest 64-bit number, said without the library's rounding: counted in the smallest units that 64-bit numbers
--- have, no 64-bit number is closer to the decimal than the value is. And the value is finite.
+-- have, no 64-bit number is closer to the decimal than the value is, and where another is as close, the last binary digit that the
+-- value keeps is even. And the value is finite. A minus changes the sign of both, so the sizes alone are spoken of.
 use mathlib.Core.Path.{_≡_, refl, ap, sym, _∙_, subst}
 use mathlib.Core.Bool.{Bool, true, false, not, cond, true≢false, _&&_}
 use mathlib.Core.Logic.{_⊎_, inl, inr}
@@ -7,7 +8,7 @@ use Prim.Native.Nat.{ℕ, zero, suc, _+_, _-_, _*_, _/_, _%_, _^_, _≤_, _<_, c
 use native.Mathlib.Nat.{le-trans, le-of-eq, mul-comm, mul-assoc, mul-right-comm, mul-one, mul-le-mul-right, mul-pos, div-add-mod', le-div-iff-mul-le, eq-of-mul-eq-mul-right, lt-of-not-le, mod-lt, suc-mul, add-mul, zero-mul, one-mul, add-zero, le-of-lt, lt-of-lt-of-le, mul-lt-mul-of-pos-right}
 use native.Mathlib.Decide.{decLe}
 use native.Mathlib.Omega.{arith}
-use lib.Dec.{T, eqb, leb, ltb, isLe, isEq, leb→le, nleb→lt, eqb→eq, ltb→lt}
+use lib.Dec.{T, eqb, leb, ltb, isLe, isEq, leb→le, nleb→lt, eqb→eq, eqb-refl, ltb→lt}
 use lib.Pow.{pow-add, pow-pos, pow-mono, pow-lt}
 use lib.Ieee.{Float, nan, inf, fin, Format, binary64, prec, emax, low, up, down, size, nearest, odd, units, round, le, fits}
 use lib.Ieee.Digits.{size-reaches}
@@ -82,6 +83,73 @@ closest-nearest n u z U =
         subst (λ (w : ℕ). apart w n ≤ apart (z * u) n) (sym (suc-mul (n / u) u))
         (up-one n u (n / u) (n % u) is (mod-lt n U) z (le-of-lt (b tt)))
 
+-- ---- and where another is as close, the one taken is even
+
+module _ (n u q r : ℕ) (is : n ≡ q * u + r) (rest : r < u) (z : ℕ) where
+  -- what is below q, q itself, q + 1, and what is above
+  place : (z * u + u ≤ q * u) ⊎ ((z ≡ q) ⊎ ((z ≡ suc q) ⊎ (q * u + u + u ≤ z * u)))
+  place = elim (decLe z q) [
+    | yes h ↦ elim (decLe q z) [
+      | yes g ↦ inr (inl (same h g))
+      | no g ↦ inl (subst (λ (m : ℕ). m ≤ q * u) (suc-mul z u) (mul-le-mul-right u (lt-of-not-le g)))
+    ]
+    | no h ↦ elim (decLe z (suc q)) [
+      | yes g ↦ inr (inr (inl (next h g)))
+      | no g ↦ inr (inr (inr (subst (λ (m : ℕ). m ≤ z * u) (suc-mul (suc q) u ∙ ap (λ (m : ℕ). m + u) (suc-mul q u)) (mul-le-mul-right u (lt-of-not-le g)))))
+    ]
+  ]
+    where
+      same : z ≤ q → q ≤ z → z ≡ q
+      same h g = omega arith
+
+      next : (z ≤ q → ⊥) → z ≤ suc q → z ≡ suc q
+      next h g = omega arith
+
+  -- q is closer than any other, where less than a half is left
+  only-whole : r * 2 < u → apart (q * u) n ≡ apart (z * u) n → z ≡ q
+  only-whole h e = go place
+    where
+      go : (z * u + u ≤ q * u) ⊎ ((z ≡ q) ⊎ ((z ≡ suc q) ⊎ (q * u + u + u ≤ z * u))) → z ≡ q
+      go (inl g) = absurd (omega arith)
+      go (inr (inl g)) = g
+      go (inr (inr (inl g))) = absurd (above (ap (λ (w : ℕ). w * u) g ∙ suc-mul q u))
+        where
+          above : z * u ≡ q * u + u → ⊥
+          above k = omega arith
+      go (inr (inr (inr g))) = absurd (omega arith)
+
+  only-next : u < r * 2 → apart (q * u + u) n ≡ apart (z * u) n → z ≡ suc q
+  only-next h e = go place
+    where
+      go : (z * u + u ≤ q * u) ⊎ ((z ≡ q) ⊎ ((z ≡ suc q) ⊎ (q * u + u + u ≤ z * u))) → z ≡ suc q
+      go (inl g) = absurd (omega arith)
+      go (inr (inl g)) = absurd (below (ap (λ (w : ℕ). w * u) g))
+        where
+          below : z * u ≡ q * u → ⊥
+          below k = omega arith
+      go (inr (inr (inl g))) = g
+      go (inr (inr (inr g))) = absurd (omega arith)
+
+pub closest-even : (n u z : ℕ) → 0 < u → apart (closest n u * u) n ≡ apart (z * u) n → (z ≡ closest n u) ⊎ (closest n u % 2 ≡ 0)
+closest-even n u z U =
+    go (compare (n % u * 2) u) (leb→le (n % u * 2) u) (nleb→lt (n % u * 2) u) (λ (e : n % u * 2 ≡ u). subst (λ (w : ℕ). T (eqb (n % u * 2) w)) e (eqb-refl (n % u * 2)))
+  where
+    is : n ≡ n / u * u + n % u
+    is = sym (div-add-mod' n u)
+
+    strictly : n % u * 2 ≤ u → (n % u * 2 ≡ u → ⊥) → n % u * 2 < u
+    strictly h g = omega arith
+
+    evened : (w : ℕ) → (w + w % 2) % 2 ≡ 0
+    evened w = omega arith
+
+    go : (o : Ordering) → (T (isLe o) → n % u * 2 ≤ u) → (T (not (isLe o)) → u < n % u * 2) → (n % u * 2 ≡ u → T (isEq o))
+        → apart (nearest (n / u) o * u) n ≡ apart (z * u) n → (z ≡ nearest (n / u) o) ⊎ (nearest (n / u) o % 2 ≡ 0)
+    go Ordering·lt a b e same = inl (only-whole n u (n / u) (n % u) is (mod-lt n U) z (strictly (a tt) e) same)
+    go Ordering·eq a b e same = inr (evened (n / u))
+    go Ordering·gt a b e same =
+        inl (only-next n u (n / u) (n % u) is (mod-lt n U) z (b tt) (ap (λ (w : ℕ). apart w n) (sym (suc-mul (n / u) u)) ∙ same))
+
 -- ---- a fraction rounded to a format, in its smallest units: none of the format's numbers is closer
 
 module _ (f : Format) (a c q j : ℕ) (C : 0 < c) (Q : q < 2 ^ prec f) where
@@ -113,33 +181,77 @@ module _ (f : Format) (a c q j : ℕ) (C : 0 < c) (Q : q < 2 ^ prec f) where
       back : (a b : ℕ) → b ≤ a → a - b + b ≡ a
       back a b h = omega arith
 
-  -- with fewer: then it lies below a power of two that lies below the fraction
-  smaller : j < k → apart (grid f a c * c) n ≤ apart (q * 2 ^ j * c) n
-  smaller h =
-      let p = prec f in
-      let P : 0 < p = two-le-pos p (two f) in
-      let low-part : 2 ^ (p - 1 + k) * c ≤ n = le-div-iff-mul-le C .0 (size-reaches (n / c) (p - 1 + k) (in-use (size (n / c)) p P h)) in
-      let same : 2 ^ (p - 1) * u ≡ 2 ^ (p - 1 + k) * c =
-      sym (mul-assoc (2 ^ (p - 1)) c (2 ^ k)) ∙ mul-right-comm (2 ^ (p - 1)) c (2 ^ k) ∙ ap (λ (w : ℕ). w * c) (sym (pow-add 2 (p - 1) k)) in
-      let under : q * 2 ^ j ≤ 2 ^ (p - 1 + k) =
-      le-trans (mul-le-mul-right (2 ^ j) (le-of-lt Q)) (le-trans (le-of-eq (sym (pow-add 2 p j))) (pow-mono (room p P h))) in
-      let below : q * 2 ^ j * c ≤ 2 ^ (p - 1 + k) * c = mul-le-mul-right c under in
-      let near : apart (grid f a c * c) n ≤ apart (2 ^ (p - 1 + k) * c) n =
-      subst (λ (w : ℕ). apart w n ≤ apart (2 ^ (p - 1 + k) * c) n) as-grid
-      (subst (λ (w : ℕ). apart (closest n u * u) n ≤ apart w n) same (closest-nearest n u (2 ^ (p - 1)) U)) in
-      further (apart (grid f a c * c) n) (2 ^ (p - 1 + k) * c) (q * 2 ^ j * c) n near low-part below
+  -- the power of two below which a number with fewer lies
+  abbrev power : ℕ
+  power = 2 ^ (prec f - 1 + k)
+
+  power-units : 2 ^ (prec f - 1) * u ≡ power * c
+  power-units =
+      sym (mul-assoc (2 ^ (prec f - 1)) c (2 ^ k)) ∙ mul-right-comm (2 ^ (prec f - 1)) c (2 ^ k) ∙ ap (λ (w : ℕ). w * c) (sym (pow-add 2 (prec f - 1) k))
+
+  power-near : apart (grid f a c * c) n ≤ apart (power * c) n
+  power-near =
+      subst (λ (w : ℕ). apart w n ≤ apart (power * c) n) as-grid
+      (subst (λ (w : ℕ). apart (closest n u * u) n ≤ apart w n) power-units (closest-nearest n u (2 ^ (prec f - 1)) U))
+
+  -- it lies below the fraction, and above the number
+  power-below : j < k → power * c ≤ n
+  power-below h = le-div-iff-mul-le C .0 (size-reaches (n / c) (prec f - 1 + k) (in-use (size (n / c)) (prec f) (two-le-pos (prec f) (two f)) h))
     where
       in-use : (z p : ℕ) → 0 < p → j < z - p → p - 1 + (z - p) < z
       in-use z p P h = omega arith
 
+  power-above : j < k → q * 2 ^ j * c ≤ power * c
+  power-above h =
+      mul-le-mul-right c
+      (le-trans (mul-le-mul-right (2 ^ j) (le-of-lt Q)) (le-trans (le-of-eq (sym (pow-add 2 (prec f) j))) (pow-mono (room (prec f) (two-le-pos (prec f) (two f)) h))))
+    where
       room : (p : ℕ) → 0 < p → j < k → p + j ≤ p - 1 + k
       room p P h = omega arith
 
+  smaller : j < k → apart (grid f a c * c) n ≤ apart (q * 2 ^ j * c) n
+  smaller h = further (apart (grid f a c * c) n) (power * c) (q * 2 ^ j * c) n power-near (power-below h) (power-above h)
+    where
       further : (d b y n : ℕ) → d ≤ apart b n → b ≤ n → y ≤ b → d ≤ apart y n
       further d b y n h g l = omega arith
 
   pub grid-nearest : apart (grid f a c * c) n ≤ apart (q * 2 ^ j * c) n
   grid-nearest = elim (decLe k j) [ yes h ↦ multiple h | no h ↦ smaller (lt-of-not-le h) ]
+
+  -- where it is as close, it is the same number, or the last digit kept is even
+  tie-multiple : k ≤ j → apart (grid f a c * c) n ≡ apart (q * 2 ^ j * c) n → (q * 2 ^ j ≡ grid f a c) ⊎ (kept (prec f) n c % 2 ≡ 0)
+  tie-multiple h same =
+      let e : q * 2 ^ (j - k) * 2 ^ k ≡ q * 2 ^ j =
+      mul-assoc q (2 ^ (j - k)) (2 ^ k) ∙ ap (λ (w : ℕ). q * w) (sym (pow-add 2 (j - k) k) ∙ ap (λ (w : ℕ). 2 ^ w) (back j k h)) in
+      let g : q * 2 ^ (j - k) * u ≡ q * 2 ^ j * c =
+      sym (mul-assoc (q * 2 ^ (j - k)) c (2 ^ k)) ∙ mul-right-comm (q * 2 ^ (j - k)) c (2 ^ k) ∙ ap (λ (w : ℕ). w * c) e in
+      go e (closest-even n u (q * 2 ^ (j - k)) U (ap (λ (w : ℕ). apart w n) as-grid ∙ same ∙ ap (λ (w : ℕ). apart w n) (sym g)))
+    where
+      back : (a b : ℕ) → b ≤ a → a - b + b ≡ a
+      back a b h = omega arith
+
+      go : q * 2 ^ (j - k) * 2 ^ k ≡ q * 2 ^ j → (q * 2 ^ (j - k) ≡ closest n u) ⊎ (closest n u % 2 ≡ 0)
+          → (q * 2 ^ j ≡ grid f a c) ⊎ (kept (prec f) n c % 2 ≡ 0)
+      go e (inl g) = inl (sym e ∙ ap (λ (w : ℕ). w * 2 ^ k) g)
+      go e (inr g) = inr g
+
+  tie-smaller : j < k → apart (grid f a c * c) n ≡ apart (q * 2 ^ j * c) n → (q * 2 ^ j ≡ grid f a c) ⊎ (kept (prec f) n c % 2 ≡ 0)
+  tie-smaller h same =
+      let is : q * 2 ^ j * c ≡ power * c = level (apart (grid f a c * c) n) (power * c) (q * 2 ^ j * c) n power-near (power-below h) (power-above h) same in
+      let its : q * 2 ^ j ≡ power = eq-of-mul-eq-mul-right c C (q * 2 ^ j) power is in
+      go (its ∙ pow-add 2 (prec f - 1) k)
+      (closest-even n u (2 ^ (prec f - 1)) U (ap (λ (w : ℕ). apart w n) as-grid ∙ same ∙ ap (λ (w : ℕ). apart w n) (is ∙ sym power-units)))
+    where
+      level : (d b y n : ℕ) → d ≤ apart b n → b ≤ n → y ≤ b → d ≡ apart y n → y ≡ b
+      level d b y n h g l e = omega arith
+
+      go : q * 2 ^ j ≡ 2 ^ (prec f - 1) * 2 ^ k → (2 ^ (prec f - 1) ≡ closest n u) ⊎ (closest n u % 2 ≡ 0)
+          → (q * 2 ^ j ≡ grid f a c) ⊎ (kept (prec f) n c % 2 ≡ 0)
+      go e (inl g) = inl (e ∙ ap (λ (w : ℕ). w * 2 ^ k) g)
+      go e (inr g) = inr g
+
+  pub grid-ties : apart (grid f a c * c) n ≡ apart (q * 2 ^ j * c) n → (q * 2 ^ j ≡ grid f a c) ⊎ (kept (prec f) n c % 2 ≡ 0)
+  grid-ties same = elim (decLe k j) [ yes h ↦ tie-multiple h same | no h ↦ tie-smaller (lt-of-not-le h) same ]
 
 -- ---- every number of a format is so many of its smallest units, with no more digits than the format keeps
 
@@ -253,3 +365,19 @@ module _ (n k : ℕ) (small : n ≤ mostWhole) (few : k ≤ mostDecimals) where
       let own : x ≡ grid binary64 n (10 ^ k) = has-one (divided n k) false x (grid binary64 n (10 ^ k)) (2 ^ low binary64) v its-units in
       let its = in-units binary64 m e y t w in
       rw (own, its .is) (grid-nearest binary64 n (10 ^ k) (its .digits) (its .shift) (power-some k few) (its .few))
+
+  -- and where one is as close, it is the value, or the last binary digit that the value keeps is even
+  pub ties-to-even : (x y m : ℕ) (e : ℤ) → HasValue (divided n k) false x (2 ^ low binary64)
+      → T (fits binary64 (fin false m e)) → HasValue (fin false m e) false y (2 ^ low binary64)
+      → apart (x * 10 ^ k) (n * 2 ^ low binary64) ≡ apart (y * 10 ^ k) (n * 2 ^ low binary64)
+      → (y ≡ x) ⊎ (kept (prec binary64) (n * 2 ^ low binary64) (10 ^ k) % 2 ≡ 0)
+  ties-to-even x y m e v t w same =
+      let own : x ≡ grid binary64 n (10 ^ k) = has-one (divided n k) false x (grid binary64 n (10 ^ k)) (2 ^ low binary64) v its-units in
+      let its = in-units binary64 m e y t w in
+      let far : apart (grid binary64 n (10 ^ k) * 10 ^ k) (n * 2 ^ low binary64) ≡ apart (its .digits * 2 ^ its .shift * 10 ^ k) (n * 2 ^ low binary64) =
+      ap (λ (z : ℕ). apart (z * 10 ^ k) (n * 2 ^ low binary64)) (sym own) ∙ same ∙ ap (λ (z : ℕ). apart (z * 10 ^ k) (n * 2 ^ low binary64)) (its .is) in
+      told (its .is) own (grid-ties binary64 n (10 ^ k) (its .digits) (its .shift) (power-some k few) (its .few) far)
+    where
+      told : {d g r : ℕ} → y ≡ d → x ≡ g → (d ≡ g) ⊎ (r ≡ 0) → (y ≡ x) ⊎ (r ≡ 0)
+      told p o (inl s) = inl (p ∙ s ∙ sym o)
+      told p o (inr s) = inr s
