@@ -5,45 +5,36 @@ use crate::digits::digits_at;
 use crate::digits::minus_at;
 use crate::digits::unpadded;
 ghost use mathlib.Core.Path.{_≡_};
-ghost use Prim.Native.Nat.{_≤_, _*_, _^_};
+ghost use Prim.Native.Nat.{_≤_, _^_};
 ghost use Rattle.meaning.specs.Cell.{mostWhole, mostDecimals, divided, negatedIf};
 ghost use Rattle.cell.specs.Says.{classSays, numberOrText, madeNumber};
 
 // The most digits after the point.
 const MOST_DECIMALS: usize = 15;
 
-// 10^0 to 10^3.
-fn ten_to(count: usize) -> u64
-    requires { ⌜ count ≤ 3 ⌝ }
-    ensures { λ r. ⌜ r ≡ 10 ^ count ⌝ }
-{
-    match count {
-        0 => 1,
-        1 => 10,
-        2 => 100,
-        _ => 1_000,
-    }
-}
-
-// 10^0, 10^4, 10^8 and 10^12.
-fn ten_to_fours(count: usize) -> u64
-    requires { ⌜ count ≤ 3 ⌝ }
-    ensures { λ r. ⌜ r ≡ 10 ^ (4 * count) ⌝ }
-{
-    match count {
-        0 => 1,
-        1 => 10_000,
-        2 => 100_000_000,
-        _ => 1_000_000_000_000,
-    }
-}
-
-// A power of ten, as a product: a table would be laid down anew at every call.
+// A power of ten. The compiler makes one table of these, where an array would be laid down anew at every call.
 fn power_of_ten(decimals: usize) -> u64
     requires { ⌜ decimals ≤ mostDecimals ⌝ }
     ensures { λ r. ⌜ r ≡ 10 ^ decimals ⌝ }
 {
-    ten_to_fours(decimals / 4) * ten_to(decimals % 4)
+    match decimals {
+        0 => 1,
+        1 => 10,
+        2 => 100,
+        3 => 1_000,
+        4 => 10_000,
+        5 => 100_000,
+        6 => 1_000_000,
+        7 => 10_000_000,
+        8 => 100_000_000,
+        9 => 1_000_000_000,
+        10 => 10_000_000_000,
+        11 => 100_000_000_000,
+        12 => 1_000_000_000_000,
+        13 => 10_000_000_000_000,
+        14 => 100_000_000_000_000,
+        _ => 1_000_000_000_000_000,
+    }
 }
 
 // A whole number divided once by a power of ten, both exact in 64-bit floating point.
