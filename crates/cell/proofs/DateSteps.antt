@@ -2,7 +2,7 @@
 use mathlib.Core.Path.{_≡_, refl, ap, sym, _∙_, subst}
 use mathlib.Core.Bool.{Bool, true, false}
 use mathlib.Core.List.{List, [], _∷_, _++_, map}
-use Prim.Native.Nat.{ℕ, suc, _+_, _-_, _≤_, _<_}
+use Prim.Native.Nat.{ℕ, suc, _+_, _-_, _*_, _≤_, _<_}
 use native.Mathlib.Nat.{lt-of-not-le, not-le-of-lt}
 use native.Mathlib.Decide.{decLe}
 use native.Mathlib.Omega.{arith}
@@ -10,13 +10,14 @@ use lib.ListN.{length, take, drop, length-drop, drop-of-length-le}
 use lib.Seq.{drop-drop}
 use borrow.Author.Tests.{leb-true, leb-false}
 use Rattle.meaning.specs.Answers.{_≤?_, if_then_else_}
-use Rattle.meaning.specs.Cell.{CellClass, dateLike, text, mostWhole, readOn, wholeNumber, front, past, isNone, isDigit, isLetter, isUnpadded, capital, hasMinus, pastMinus, monthNamed, dayIn, dateIn, isDate, dateClass}
+use Rattle.meaning.specs.Cell.{CellClass, dateLike, text, Unpadded, leading, readOn, wholeNumber, front, past, isNone, isDigit, isLetter, isUnpadded, capital, hasMinus, pastMinus, monthNamed, dayIn, dateIn, isDate, dateClass}
 use Rattle.meaning.proofs.laws.Answered.{if-true, if-false}
 use Rattle.meaning.proofs.laws.Truths.{by-cases, true-is-not-false, not-true-false}
 use Rattle.meaning.proofs.cell.Fronts.{none-past, pass-front}
+use Rattle.meaning.proofs.cell.DigitLaws.{unpadded-true, read-grows}
 use Rattle.meaning.proofs.cell.DateLaws.{Day, day-is, no-day, DateTested, date-tests, date-tested}
-use Rattle.cell.specs.Digits.{grownOn, DigitsAt, minusCount}
-use Rattle.cell.proofs.Runs.{run-taken, run-dropped, grown-low, grown-high, minus-one, minus-none, minus-dropped}
+use Rattle.cell.specs.Digits.{DigitsAt, minusCount}
+use Rattle.cell.proofs.Runs.{run-taken, run-dropped, minus-one, minus-none, minus-dropped}
 
 -- ---- the day
 
@@ -63,19 +64,7 @@ module _ (cell : List ℕ) (place value end : ℕ) (read : DigitsAt cell place 0
   pub day-late : 31 < value → dayIn (drop place cell) ≡ 0
   day-late h =
       no-day (drop place cell)
-      (λ d.
-      let same : value ≡ grownOn 0 (drop place cell) = read .value ∙ ap (grownOn 0) (day-whole d) in
-      late (d .last) same)
-    where
-      late : wholeNumber (drop place cell) ≤ 31 → value ≡ grownOn 0 (drop place cell) → ⊥
-      late last same =
-          by-cases (grownOn 0 (drop place cell) ≤? mostWhole)
-          (λ t.
-          let is = grown-low 0 (drop place cell) (leb-true (grownOn 0 (drop place cell)) mostWhole t) in
-          omega arith)
-          (λ f.
-          let high = grown-high 0 (drop place cell) (leb-false (grownOn 0 (drop place cell)) mostWhole f) in
-          omega arith)
+      (λ d. let same : value ≡ wholeNumber (drop place cell) = read .value ∙ ap (readOn 0) (day-whole d) in let last = d .last in omega arith)
 
   pub day-there : end ≡ length cell → isUnpadded (take (end - place) (drop place cell)) ≡ true → value ≤ 31 → value ≡ dayIn (drop place cell)
   unfolding isNone
@@ -84,8 +73,7 @@ module _ (cell : List ℕ) (place value end : ℕ) (read : DigitsAt cell place 0
       let none : past isDigit (drop place cell) ≡ [] =
       sym (run-dropped isDigit (drop place cell)) ∙ drop-drop (length run) place cell ∙ drop-of-length-le cell (all (length run) (read .end) last) in
       let whole : run ≡ drop place cell = pass-front isDigit (none-past isDigit (drop place cell) (ap isNone none)) in
-      let grown : value ≡ grownOn 0 (drop place cell) = read .value ∙ ap (grownOn 0) whole in
-      let is : value ≡ wholeNumber (drop place cell) = grown ∙ grown-low 0 (drop place cell) (subst (λ (n : ℕ). n ≤ mostWhole) grown (low small)) in
+      let is : value ≡ wholeNumber (drop place cell) = read .value ∙ ap (readOn 0) whole in
       is
       ∙ sym
       (day-is (drop place cell)
@@ -98,8 +86,21 @@ module _ (cell : List ℕ) (place value end : ℕ) (read : DigitsAt cell place 0
       all : (n : ℕ) → end ≡ place + n → end ≡ length cell → length cell ≤ place + n
       all n e f = omega arith
 
-      low : value ≤ 31 → value ≤ mostWhole
-      low h = omega arith
+-- three digits or more make no day
+pub day-long : (digits : List ℕ) → 2 < length digits → dayIn digits ≡ 0
+unfolding readOn
+day-long digits h = no-day digits (λ d. late digits h d)
+  where
+    late : (digits : List ℕ) → 2 < length digits → Day digits → ⊥
+    late [] h d = omega arith
+    late (a ∷ []) h d = omega arith
+    late (a ∷ b ∷ []) h d = omega arith
+    late (a ∷ b ∷ c ∷ rest) h d = go (unpadded-true (none-past isDigit (a ∷ b ∷ c ∷ rest) (d .all)) (d .unpadded)) (d .last)
+      where
+        go : Unpadded (a ∷ b ∷ c ∷ rest) → wholeNumber (a ∷ b ∷ c ∷ rest) ≤ 31 → ⊥
+        go (leading low high more) last =
+            let all = read-grows (((0 * 10 + (a - 0x30)) * 10 + (b - 0x30)) * 10 + (c - 0x30)) rest in
+            omega arith
 
 -- ---- what the month and the day make of a text
 

@@ -13,10 +13,11 @@ use Rattle.meaning.specs.Cell.{CellClass, number, text, mostWhole, mostDecimals
 use Rattle.meaning.proofs.laws.Answered.{if-true, if-false, both-true}
 use Rattle.meaning.proofs.laws.Truths.{by-cases, true-is-not-false, not-true-false}
 use Rattle.meaning.proofs.cell.Fronts.{Pass, front-pass, none-past, past-none, pass-front}
-use Rattle.meaning.proofs.cell.NumberLaws.{pointed-at, Tested, tested, number-tested}
+use Rattle.meaning.proofs.cell.DigitLaws.{read-append}
+use Rattle.meaning.proofs.cell.NumberLaws.{pointed-at, Tested, tested, number-tested, number-sound, number-spelled, number-short}
 use Rattle.cell.specs.Says.{numberOrText, madeNumber}
-use Rattle.cell.specs.Digits.{grownOn, DigitsAt, minusCount}
-use Rattle.cell.proofs.Runs.{run-taken, run-dropped, run-fits, grown-low, grown-high, grown-append, minus-one, minus-none, minus-dropped}
+use Rattle.cell.specs.Digits.{Room, DigitsAt, minusCount}
+use Rattle.cell.proofs.Runs.{run-taken, run-dropped, run-fits, minus-one, minus-none, minus-dropped}
 
 -- ---- where a text is cut
 
@@ -40,7 +41,7 @@ minus-told cell start e =
 
 -- the places of the whole part's start and end, and the number that its digits make
 pub record Cut (cell : List ℕ) (start value end : ℕ) : Type 0 where
-  pub made : value ≡ grownOn 0 (wholeIn cell)
+  pub made : value ≡ readOn 0 (wholeIn cell)
   pub whole : take (end - start) (drop start cell) ≡ wholeIn cell
   pub rest : drop end cell ≡ restIn cell
   pub fits : end ≤ length cell
@@ -56,7 +57,7 @@ cut-at cell start value end e read =
     subst (λ (n : ℕ). length (wholeIn cell) ≤ n) (ap length (sym past) ∙ length-drop start cell) (run-fits isDigit (pastMinus cell)) in
     let inside : start ≤ length cell = rw e (minus-fits cell) in
     record {
-      made = read .value ∙ ap (grownOn 0) run;
+      made = read .value ∙ ap (readOn 0) run;
       whole = ap (λ (n : ℕ). take n (drop start cell)) count ∙ ap (take (length (wholeIn cell))) past ∙ run-taken isDigit (pastMinus cell);
       rest =
           ap (λ (n : ℕ). drop n cell) many
@@ -81,6 +82,15 @@ unfolding numberOrText
 is-number cell t = sym (if-true _ _ (number-tested cell t))
 
 -- ---- the tests before the point
+
+-- a number has 18 bytes at the most
+pub long-text : (cell : List ℕ) → 18 < length cell → text ≡ numberOrText cell
+unfolding numberOrText
+long-text cell h =
+    sym
+    (if-false _ _
+    (not-true-false _
+    (λ e. let short = number-short (numberIn cell) (number-sound cell e) in let same = ap length (number-spelled cell e) in absurd (omega arith))))
 
 pub padded-text : (cell : List ℕ) → isUnpadded (wholeIn cell) ≡ false → text ≡ numberOrText cell
 unfolding numberIn
@@ -154,11 +164,11 @@ module _ (cell : List ℕ) (unpadded : isUnpadded (wholeIn cell) ≡ true) (poin
   unfolding allDigits numberIn
   all = refl
 
-  high : (value : ℕ) → value ≡ grownOn 0 (wholeIn cell ++ decimals) → mostWhole < value
+  high : (value : ℕ) → value ≡ readOn 0 (wholeIn cell ++ decimals) → mostWhole < value
       → madeNumber (hasMinus cell) value (length decimals) ≡ numberOrText cell
   high value e h =
       let more : mostWhole < allDigits (numberIn cell) =
-      rw all (grown-high 0 (wholeIn cell ++ decimals) (subst (λ (n : ℕ). mostWhole < n) e h)) in
+      rw all (subst (λ (n : ℕ). mostWhole < n) e h) in
       made-large (hasMinus cell) value (length decimals) h ∙ not-number cell (λ t. let most = t .atMost in omega arith)
 
   -- every test holds
@@ -184,14 +194,13 @@ module _ (cell : List ℕ) (unpadded : isUnpadded (wholeIn cell) ≡ true) (poin
       ∙ its-value
       ∙ is-number cell (passed (subst (λ (n : ℕ). n ≤ mostWhole) e h) (subst (λ (n : ℕ). (hasMinus cell && n =? 0) ≡ false) e f)))
 
-  pub number-made : (value : ℕ) → value ≡ grownOn 0 (wholeIn cell ++ decimals)
+  pub number-made : (value : ℕ) → value ≡ readOn 0 (wholeIn cell ++ decimals)
       → madeNumber (hasMinus cell) value (length decimals) ≡ numberOrText cell
   number-made value e =
       by-cases (value ≤? mostWhole)
       (λ t.
       let h = leb-true value mostWhole t in
-      let is = grown-low 0 (wholeIn cell ++ decimals) (subst (λ (n : ℕ). n ≤ mostWhole) e h) in
-      low value (e ∙ is ∙ sym all) h)
+      low value (e ∙ sym all) h)
       (λ f. high value e (leb-false value mostWhole f))
 
 -- ---- the tests past the point
@@ -255,11 +264,11 @@ module _ (cell : List ℕ) (start value end : ℕ) (cut : Cut cell start value e
       number-past unpadded few =
           let decimals : drop 1 (restIn cell) ≡ after = ap (drop 1) at-end in
           let count : last - (end + 1) ≡ length after = counted (length after) (long decimals-all) in
-          let all : more ≡ grownOn 0 (wholeIn cell ++ drop 1 (restIn cell)) =
+          let all : more ≡ readOn 0 (wholeIn cell ++ drop 1 (restIn cell)) =
           read .value
-          ∙ ap (grownOn value) (decimals-all .whole ∙ sym decimals)
-          ∙ ap (λ (n : ℕ). grownOn n (drop 1 (restIn cell))) (cut .made)
-          ∙ sym (grown-append 0 (wholeIn cell) (drop 1 (restIn cell))) in
+          ∙ ap (readOn value) (decimals-all .whole ∙ sym decimals)
+          ∙ ap (λ (n : ℕ). readOn n (drop 1 (restIn cell))) (cut .made)
+          ∙ sym (read-append 0 (wholeIn cell) (drop 1 (restIn cell))) in
           ap (madeNumber (hasMinus cell) more) (count ∙ ap length (sym decimals))
           ∙ number-made cell unpadded (ap isPointed at-end ∙ decimals-point (getD cell end 0) after point decimals-all)
           (subst (λ (n : ℕ). n ≤ mostDecimals) (count ∙ ap length (sym decimals)) few) more all
@@ -270,11 +279,11 @@ module _ (cell : List ℕ) (start value end : ℕ) (cut : Cut cell start value e
 -- a number with no point
 pub number-whole : (cell : List ℕ) (start value end : ℕ) → Cut cell start value end → isUnpadded (wholeIn cell) ≡ true → end ≡ length cell
     → madeNumber (hasMinus cell) value 0 ≡ numberOrText cell
-unfolding isPointed grownOn
+unfolding isPointed readOn
 number-whole cell start value end cut unpadded e =
     let none : restIn cell ≡ [] = rest-none cell start value end cut e in
     let no-decimals : drop 1 (restIn cell) ≡ [] = ap (drop 1) none in
-    let all : value ≡ grownOn 0 (wholeIn cell ++ drop 1 (restIn cell)) =
-    cut .made ∙ ap (grownOn (grownOn 0 (wholeIn cell))) (sym no-decimals) ∙ sym (grown-append 0 (wholeIn cell) (drop 1 (restIn cell))) in
+    let all : value ≡ readOn 0 (wholeIn cell ++ drop 1 (restIn cell)) =
+    cut .made ∙ ap (readOn (readOn 0 (wholeIn cell))) (sym no-decimals) ∙ sym (read-append 0 (wholeIn cell) (drop 1 (restIn cell))) in
     ap (λ (l : List ℕ). madeNumber (hasMinus cell) value (length l)) (sym no-decimals)
     ∙ number-made cell unpadded (ap isPointed none) (subst (λ (l : List ℕ). length l ≤ mostDecimals) (sym no-decimals) (omega arith)) value all

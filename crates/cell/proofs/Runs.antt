@@ -1,21 +1,23 @@
--- Bytes at a place of a text: the run of those that pass a test, one byte on or at its end; digits that are read on up to the most;
--- and a minus that is passed.
+-- Bytes at a place of a text: the run of those that pass a test, one byte on or at its end; room for the digits that may follow; and a
+-- minus that is passed.
 use mathlib.Core.Path.{_≡_, refl, ap, sym, _∙_, subst}
 use mathlib.Core.Bool.{Bool, true, false}
 use mathlib.Core.List.{List, [], _∷_, _++_}
-use Prim.Native.Nat.{ℕ, suc, _+_, _-_, _*_, _≤_, _<_}
+use Prim.Native.Nat.{ℕ, zero, suc, _+_, _-_, _*_, _^_, _≤_, _<_}
+use native.Mathlib.Nat.{mul-comm, mul-assoc, mul-left-comm, one-mul, mul-le-mul-right, pow-suc}
 use native.Mathlib.Numerals.{add-one}
 use native.Mathlib.Omega.{arith}
 use lib.ListN.{length, getD, take, drop, drop-of-length-le}
 use lib.Seq.{drop-cons, take-append-seam, drop-append-seam, drop-drop}
-use borrow.Author.Tests.{le-leb, lt-leb, leb-true, leb-false}
+use borrow.Author.Tests.{leb-true}
 use Rattle.meaning.specs.Answers.{_≤?_, if_then_else_}
-use Rattle.meaning.specs.Cell.{mostWhole, readOn, front, past, isDigit, hasMinus, pastMinus}
+use Rattle.meaning.specs.SkipBook.{allBelow}
+use Rattle.meaning.specs.Cell.{front, past, hasMinus, pastMinus}
+use Rattle.meaning.proofs.laws.Bools.{all-below}
 use Rattle.meaning.proofs.laws.Answered.{if-true, if-false}
 use Rattle.meaning.proofs.laws.Truths.{by-cases}
 use Rattle.meaning.proofs.cell.Fronts.{Stops, atEnd, atByte, joined, front-takes, front-stops}
-use Rattle.meaning.proofs.cell.DigitLaws.{read-grows}
-use Rattle.cell.specs.Digits.{grownBy, grownOn, minusCount}
+use Rattle.cell.specs.Digits.{Room, minusCount}
 
 -- ---- a run of bytes at a place
 
@@ -51,54 +53,54 @@ run-fits test bs = subst (λ (l : List ℕ). length (front test bs) ≤ length l
     longer [] ys = omega arith
     longer (x ∷ xs) ys = let h = longer xs ys in omega arith
 
--- ---- digits read on, up to the most
+-- ---- room for digits
 
-grown-more : (n b : ℕ) → n ≤ mostWhole → grownBy n b ≡ n * 10 + (b - 0x30)
-unfolding grownBy
-grown-more n b h = if-true _ _ (le-leb n mostWhole h)
+-- one digit more fits, and leaves room for the rest
+power-step : (n p : ℕ) → p < n → 10 ^ (n - p) ≡ 10 * 10 ^ (n - (p + 1))
+power-step n p h =
+    let one : n - p ≡ suc (n - (p + 1)) = omega arith in
+    ap (λ (k : ℕ). 10 ^ k) one ∙ pow-suc 10 (n - (p + 1)) ∙ mul-comm (10 ^ (n - (p + 1))) 10
 
-grown-stays : (n b : ℕ) → mostWhole < n → grownBy n b ≡ n
-unfolding grownBy
-grown-stays n b h = if-false _ _ (lt-leb n mostWhole h)
+power-one : (k : ℕ) → 1 ≤ 10 ^ k
+power-one zero = omega arith
+power-one (suc k) = let h = power-one k in let e = pow-suc 10 k in omega arith
 
--- a number above the most stays
-grown-all : (n : ℕ) (bs : List ℕ) → mostWhole < n → grownOn n bs ≡ n
-unfolding grownOn
-grown-all n [] h = refl
-grown-all n (b ∷ bs) h = rw (grown-stays n b h) (grown-all n bs h)
+pub room-fits : (text : List ℕ) (place value : ℕ) → Room text place value → place < length text → value * 10 + 10 ≤ 10 ^ 19
+room-fits text place value r h =
+    let left = 10 ^ (length text - (place + 1)) in
+    let step = power-step (length text) place h in
+    let room : (value + 1) * (10 * left) ≤ 10 ^ 19 = subst (λ (m : ℕ). (value + 1) * m ≤ 10 ^ 19) step (r .room) in
+    let same : (value + 1) * (10 * left) ≡ left * ((value + 1) * 10) = simp (mul-assoc, mul-comm, mul-left-comm) in
+    let more : 1 * ((value + 1) * 10) ≤ left * ((value + 1) * 10) = mul-le-mul-right ((value + 1) * 10) (power-one (length text - (place + 1))) in
+    omega (arith, one-mul ((value + 1) * 10))
 
--- up to the most it is the whole number, and above it so is the whole number
-pub grown-low : (n : ℕ) (bs : List ℕ) → grownOn n bs ≤ mostWhole → grownOn n bs ≡ readOn n bs
-unfolding grownOn readOn
-grown-low n [] h = refl
-grown-low n (b ∷ bs) h =
-    by-cases (n ≤? mostWhole)
-    (λ t.
-    let same = grown-more n b (leb-true n mostWhole t) in
-    subst (λ (m : ℕ). grownOn m bs ≡ readOn (n * 10 + (b - 0x30)) bs) (sym same)
-    (grown-low (n * 10 + (b - 0x30)) bs (subst (λ (m : ℕ). grownOn m bs ≤ mostWhole) same h)))
-    (λ f.
-    let above = leb-false n mostWhole f in
-    let stays = grown-all n (b ∷ bs) above in
-    absurd (omega arith))
+pub room-on : (text : List ℕ) (place value digit : ℕ) → Room text place value → place < length text → digit ≤ 9 → Room text (place + 1) (value * 10 + digit)
+room-on text place value digit r h nine =
+    let left = 10 ^ (length text - (place + 1)) in
+    let step = power-step (length text) place h in
+    let room : (value + 1) * (10 * left) ≤ 10 ^ 19 = subst (λ (m : ℕ). (value + 1) * m ≤ 10 ^ 19) step (r .room) in
+    let same : (value + 1) * (10 * left) ≡ (value + 1) * 10 * left = sym (mul-assoc (value + 1) 10 left) in
+    let more : (value * 10 + digit + 1) * left ≤ (value + 1) * 10 * left = mul-le-mul-right left (omega arith) in
+    record { room = omega arith }
 
-pub grown-high : (n : ℕ) (bs : List ℕ) → mostWhole < grownOn n bs → mostWhole < readOn n bs
-unfolding grownOn readOn
-grown-high n [] h = h
-grown-high n (b ∷ bs) h =
-    by-cases (n ≤? mostWhole)
-    (λ t.
-    let same = grown-more n b (leb-true n mostWhole t) in
-    grown-high (n * 10 + (b - 0x30)) bs (subst (λ (m : ℕ). mostWhole < grownOn m bs) same h))
-    (λ f.
-    let above = leb-false n mostWhole f in
-    let more = read-grows n (b ∷ bs) in
-    omega arith)
+-- the same number further on
+pub room-past : (text : List ℕ) (place value : ℕ) → Room text place value → place < length text → Room text (place + 1) value
+room-past text place value r h =
+    let left = 10 ^ (length text - (place + 1)) in
+    let step = power-step (length text) place h in
+    let room : (value + 1) * (10 * left) ≤ 10 ^ 19 = subst (λ (m : ℕ). (value + 1) * m ≤ 10 ^ 19) step (r .room) in
+    let same : (value + 1) * (10 * left) ≡ (value + 1) * left * 10 = simp (mul-assoc, mul-comm, mul-left-comm) in
+    record { room = omega arith }
 
-pub grown-append : (n : ℕ) (bs cs : List ℕ) → grownOn n (bs ++ cs) ≡ grownOn (grownOn n bs) cs
-unfolding grownOn
-grown-append n [] cs = refl
-grown-append n (b ∷ bs) cs = grown-append (grownBy n b) bs cs
+-- at the beginning, with at most 18 bytes left
+few-powers : allBelow 19 (λ k. 10 ^ k ≤? 10 ^ 19) ≡ true
+unfolding allBelow
+few-powers = refl
+
+pub room-first : (text : List ℕ) (place : ℕ) → length text - place ≤ 18 → Room text place 0
+room-first text place h =
+    let few = leb-true (10 ^ (length text - place)) (10 ^ 19) (all-below 19 (λ k. 10 ^ k ≤? 10 ^ 19) few-powers (length text - place) (omega arith)) in
+    record { room = subst (λ (m : ℕ). m ≤ 10 ^ 19) (sym (one-mul (10 ^ (length text - place)))) few }
 
 -- ---- a minus passed
 

@@ -1,24 +1,20 @@
--- Digits at a place of a text: the whole number that they make, which stays as it is once it is above the most, and the place
--- after them.
-use Prim.Native.Nat.{ℕ, _+_, _-_, _*_}
+-- Digits at a place of a text: the whole number that they make, and the place after them. So few bytes are left that nothing wraps.
+use Prim.Native.Nat.{ℕ, _+_, _-_, _*_, _^_, _≤_}
 use mathlib.Core.Path.{_≡_}
-use mathlib.Core.List.{List, [], _∷_}
+use mathlib.Core.List.{List}
 use lib.ListN.{length, drop}
-use Rattle.meaning.specs.Answers.{_≤?_, if_then_else_}
-use Rattle.meaning.specs.Cell.{mostWhole, front, isDigit, hasMinus}
+use Rattle.meaning.specs.Answers.{if_then_else_}
+use Rattle.meaning.specs.Cell.{readOn, front, isDigit, hasMinus}
 
--- one digit more
-unfoldable pub grownBy : ℕ → ℕ → ℕ
-grownBy n b = if n ≤? mostWhole then n * 10 + (b - 0x30) else n
-
-unfoldable pub grownOn : ℕ → List ℕ → ℕ
-grownOn n [] = n
-grownOn n (b ∷ bs) = grownOn (grownBy n b) bs
+-- as many digits more as there are bytes from a place on leave a number below 10^19, and so below 2^64
+pub record Room (text : List ℕ) (place value : ℕ) : Type 0 where
+  pub room : (value + 1) * 10 ^ (length text - place) ≤ 10 ^ 19
 
 -- the digits from a place on, read on after a number
 pub record DigitsAt (text : List ℕ) (place start made past : ℕ) : Type 0 where
-  pub value : made ≡ grownOn start (front isDigit (drop place text))
+  pub value : made ≡ readOn start (front isDigit (drop place text))
   pub end : past ≡ place + length (front isDigit (drop place text))
+  pub left : Room text past made
 
 -- 1 where a minus or hyphen stands at the front, else 0
 unfoldable pub minusCount : List ℕ → ℕ

@@ -8,11 +8,14 @@ use crate::months::capital;
 use crate::months::may_begin;
 use crate::months::month_of;
 ghost use mathlib.Core.Path.{_≡_};
+ghost use Prim.Native.Nat.{_-_, _≤_};
 ghost use lib.ListN.{length, drop};
 ghost use Rattle.meaning.specs.Cell.{front, isLetter, dayIn, dateClass};
 ghost use Rattle.cell.specs.Says.{classSays};
 
 const LAST_DAY: u64 = 31;
+
+const MOST_DAY_DIGITS: usize = 2;
 
 fn is_letter(b: u8) -> bool
     ensures { λ r. ⌜ r ≡ isLetter b ⌝ }
@@ -35,8 +38,9 @@ fn letters_in(text: &[u8]) -> usize
     i
 }
 
-// The day that stands from a place to the end, or 0.
-fn day_at(text: &[u8], place: usize) -> u8
+// The day that stands from a place to the end, which is near, or 0.
+fn near_day(text: &[u8], place: usize) -> u8
+    requires { ⌜ length (now text) - place ≤ 2 ⌝ }
     ensures { λ r. ⌜ r ≡ dayIn (drop place (now (text .entry))) ⌝ }
 {
     let digits = digits_at(text, place, 0);
@@ -52,6 +56,17 @@ fn day_at(text: &[u8], place: usize) -> u8
         return 0;
     }
     day as u8
+}
+
+// The day that stands from a place to the end, or 0.
+fn day_at(text: &[u8], place: usize) -> u8
+    requires { ⌜ place ≤ length (now text) ⌝ }
+    ensures { λ r. ⌜ r ≡ dayIn (drop place (now (text .entry))) ⌝ }
+{
+    if MOST_DAY_DIGITS < text.len() - place {
+        return 0;
+    }
+    near_day(text, place)
 }
 
 // The date look-alike that a text is, or text.

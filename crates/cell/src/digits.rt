@@ -2,15 +2,12 @@
 ghost use mathlib.Core.Path.{_≡_};
 ghost use mathlib.Core.Bool.{true};
 ghost use mathlib.Core.List.{List};
-ghost use Prim.Native.Nat.{_+_, _≤_};
+ghost use Prim.Native.Nat.{_+_, _-_, _*_, _^_, _≤_};
 ghost use lib.ListN.{length, take, drop};
 ghost use Rattle.meaning.specs.Cell.{isDigit, isUnpadded};
-ghost use Rattle.cell.specs.Digits.{grownBy, minusCount, DigitsAt};
+ghost use Rattle.cell.specs.Digits.{minusCount, Room, DigitsAt};
 
-// The most that all digits of a number make: 2^53.
-pub const MOST_WHOLE: u64 = 9_007_199_254_740_992;
-
-// The whole number that digits make, and the place after them. A number above the most stays as it is, so that nothing wraps.
+// The whole number that digits make, and the place after them.
 pub struct Digits {
     pub value: u64,
     pub end: usize,
@@ -22,20 +19,17 @@ fn is_digit(b: u8) -> bool
     b'0' <= b && b <= b'9'
 }
 
-// A number with one digit more.
+// A number with one digit more, where there is room for it.
 fn grown(value: u64, digit: u8) -> u64
-    requires { ⌜ isDigit digit ≡ true ⌝ }
-    ensures { λ r. ⌜ r ≡ grownBy value digit ⌝ }
+    requires { ⌜ (isDigit digit ≡ true) × (value * 10 + 10 ≤ 10 ^ 19) ⌝ }
+    ensures { λ r. ⌜ r ≡ value * 10 + (digit - 0x30) ⌝ }
 {
-    if value <= MOST_WHOLE {
-        value * 10 + (digit - b'0') as u64
-    } else {
-        value
-    }
+    value * 10 + (digit - b'0') as u64
 }
 
 // The digits from a place on, read on after a number.
 pub fn digits_at(text: &[u8], from: usize, start: u64) -> Digits
+    requires { ⌜ Room (now text) from start ⌝ }
     ensures { λ r. ⌜ DigitsAt (now (text .entry)) from start (r .value) (r .end) ⌝ }
 {
     let mut value = start;

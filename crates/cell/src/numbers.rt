@@ -1,13 +1,19 @@
 // A number: its digits are one whole number, divided once by a power of ten.
 use crate::Class;
-use crate::digits::MOST_WHOLE;
 use crate::digits::digits_at;
 use crate::digits::minus_at;
 use crate::digits::unpadded;
 ghost use mathlib.Core.Path.{_≡_};
 ghost use Prim.Native.Nat.{_≤_, _^_};
+ghost use lib.ListN.{length};
 ghost use Rattle.meaning.specs.Cell.{mostWhole, mostDecimals, divided, negatedIf};
 ghost use Rattle.cell.specs.Says.{classSays, numberOrText, madeNumber};
+
+// The most bytes of a number: a sign, a point, and sixteen digits.
+const MOST_BYTES: usize = 18;
+
+// The most that all digits of a number make: 2^53.
+const MOST_WHOLE: u64 = 9_007_199_254_740_992;
 
 // The most digits after the point.
 const MOST_DECIMALS: usize = 15;
@@ -67,8 +73,9 @@ fn made(minus: bool, value: u64, decimals: usize) -> Class
     Class::Number(negated_if(minus, quotient(value, decimals)))
 }
 
-// The number that a text is, or text.
-pub(crate) fn number_in(text: &[u8]) -> Class
+// The number that a short text is, or text.
+fn short_number(text: &[u8]) -> Class
+    requires { ⌜ length (now text) ≤ 18 ⌝ }
     ensures { λ r. ⌜ classSays r ≡ numberOrText (now (text .entry)) ⌝ }
 {
     let start = minus_at(text, 0);
@@ -97,4 +104,14 @@ pub(crate) fn number_in(text: &[u8]) -> Class
         return Class::Text;
     }
     made(minus, all.value, last - first)
+}
+
+// The number that a text is, or text.
+pub(crate) fn number_in(text: &[u8]) -> Class
+    ensures { λ r. ⌜ classSays r ≡ numberOrText (now (text .entry)) ⌝ }
+{
+    if MOST_BYTES < text.len() {
+        return Class::Text;
+    }
+    short_number(text)
 }

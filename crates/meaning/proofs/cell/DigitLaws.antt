@@ -2,7 +2,9 @@
 use mathlib.Core.Path.{_≡_, refl, ap, sym, _∙_}
 use mathlib.Core.Bool.{Bool, true, false, not, _&&_}
 use mathlib.Core.List.{List, [], _∷_, _++_}
-use Prim.Native.Nat.{ℕ, _≤_, _<_, _+_, _-_, _*_}
+use Prim.Native.Nat.{ℕ, zero, suc, _≤_, _<_, _+_, _-_, _*_, _^_}
+use native.Mathlib.Nat.{not-suc-le-zero, le-of-suc-le-suc, mul-one, mul-comm, mul-assoc, mul-le-mul-right, pow-suc}
+use lib.ListN.{length}
 use native.Mathlib.Omega.{arith}
 use borrow.Author.Tests.{leb-true, leb-false, le-leb, lt-leb, eqb-true, eqb-false, eq-eqb, ne-eqb, not-true}
 use Rattle.meaning.specs.Answers.{_≤?_, _=?_}
@@ -116,3 +118,14 @@ pub read-grows : (n : ℕ) (bs : List ℕ) → n ≤ readOn n bs
 unfolding readOn
 read-grows n [] = omega arith
 read-grows n (b ∷ bs) = let h = read-grows (n * 10 + (b - 0x30)) bs in omega arith
+
+-- so many digits more make at least so many times ten as much
+pub read-power : (k n : ℕ) (bs : List ℕ) → k ≤ length bs → n * 10 ^ k ≤ readOn n bs
+unfolding readOn
+read-power zero n bs h = rw (mul-one n) (read-grows n bs)
+read-power (suc k) n [] h = absurd (not-suc-le-zero h)
+read-power (suc k) n (b ∷ bs) h =
+    let more = read-power k (n * 10 + (b - 0x30)) bs (le-of-suc-le-suc h) in
+    let ten : n * 10 ^ suc k ≡ n * 10 * 10 ^ k = ap (λ (m : ℕ). n * m) (pow-suc 10 k ∙ mul-comm (10 ^ k) 10) ∙ sym (mul-assoc n 10 (10 ^ k)) in
+    let grows : n * 10 * 10 ^ k ≤ (n * 10 + (b - 0x30)) * 10 ^ k = mul-le-mul-right (10 ^ k) (omega arith) in
+    omega arith

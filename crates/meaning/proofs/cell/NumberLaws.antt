@@ -3,16 +3,17 @@
 use mathlib.Core.Path.{_≡_, refl, ap, sym, _∙_, subst}
 use mathlib.Core.Bool.{Bool, true, false, not, _&&_}
 use mathlib.Core.List.{List, [], _∷_, _++_}
-use Prim.Native.Nat.{ℕ, _≤_}
+use Prim.Native.Nat.{ℕ, _+_, _-_, _*_, _^_, _≤_}
+use native.Mathlib.Decide.{decLe}
 use native.Mathlib.Omega.{arith}
-use lib.ListN.{length, drop}
+use lib.ListN.{length, drop, length-append}
 use borrow.Author.Tests.{leb-true, le-leb, eqb-true, eqb-false, eq-eqb, ne-eqb, not-true}
 use Rattle.meaning.specs.Answers.{_≤?_, _=?_}
-use Rattle.meaning.specs.Cell.{Digits, noDigits, digitThen, Number, minusText, pointText, numberText, allDigits, IsNumber, mostWhole, mostDecimals, front, past, isNone, isDigit, isUnpadded, isPointed, hasMinus, pastMinus, numberIn, isNumber}
+use Rattle.meaning.specs.Cell.{Digits, noDigits, digitThen, Unpadded, zeroAlone, leading, readOn, Number, minusText, pointText, numberText, allDigits, IsNumber, mostWhole, mostDecimals, front, past, isNone, isDigit, isUnpadded, isPointed, hasMinus, pastMinus, numberIn, isNumber}
 use Rattle.meaning.proofs.laws.Answered.{and-true, both-true}
 use Rattle.meaning.proofs.laws.Truths.{by-cases, true-is-not-false, not-true-false}
 use Rattle.meaning.proofs.cell.Fronts.{Pass, Stops, atEnd, atByte, joined, front-pass, front-of, past-of, none-past, past-none}
-use Rattle.meaning.proofs.cell.DigitLaws.{pass-digits, digits-pass, unpadded-true, true-unpadded, unpadded-digits, unpadded-plain, minus-split, minus-there, minus-past, below-digits}
+use Rattle.meaning.proofs.cell.DigitLaws.{pass-digits, digits-pass, unpadded-true, true-unpadded, unpadded-digits, unpadded-plain, minus-split, minus-there, minus-past, below-digits, read-power}
 
 -- ---- the point and what follows it
 
@@ -147,3 +148,39 @@ module _ (n : Number) (is : IsNumber n) where
       not-both =
           not-true-false (n .minus && allDigits n =? 0)
           (λ e. let both = and-true (n .minus) (allDigits n =? 0) e in is .notMinusZero (both .0) (eqb-true (allDigits n) 0 (both .1)))
+
+-- ---- a number is short
+
+minus-short : (m : Bool) → length (minusText m) ≤ 1
+unfolding minusText
+minus-short true = omega arith
+minus-short false = omega arith
+
+point-short : (ds : List ℕ) → length (pointText ds) ≤ length ds + 1
+unfolding pointText
+point-short [] = omega arith
+point-short (d ∷ ds) = omega arith
+
+-- a zero alone, or so few digits that all of them stay below the most
+digits-short : {ws : List ℕ} (ds : List ℕ) → Unpadded ws → length ds ≤ mostDecimals → readOn 0 (ws ++ ds) ≤ mostWhole → length ws + length ds ≤ 16
+unfolding readOn
+digits-short ds (zeroAlone e) few small = omega arith
+digits-short ds (leading {b} {bs} h g rest) few small =
+    elim (decLe 16 (length (bs ++ ds))) [
+      | yes long ↦ absurd (above (0 * 10 + (b - 0x30)) (omega arith) (read-power 16 (0 * 10 + (b - 0x30)) (bs ++ ds) long))
+      | no short ↦ let all = length-append bs ds in omega arith
+    ]
+  where
+    above : (n : ℕ) → 1 ≤ n → n * 10 ^ 16 ≤ readOn (0 * 10 + (b - 0x30)) (bs ++ ds) → ⊥
+    above n one more = omega arith
+
+-- a sign, a point, and sixteen digits
+pub number-short : (n : Number) → IsNumber n → length (numberText n) ≤ 18
+unfolding numberText allDigits
+number-short n is =
+    let digits = digits-short (n .decimals) (is .whole) (is .few) (is .atMost) in
+    let sign = minus-short (n .minus) in
+    let point = point-short (n .decimals) in
+    let all = length-append (minusText (n .minus)) (n .whole ++ pointText (n .decimals)) in
+    let rest = length-append (n .whole) (pointText (n .decimals)) in
+    omega arith

@@ -3,9 +3,9 @@
 -- Assumes nothing.
 use mathlib.Core.Path.{_≡_, sym, ap, _∙_, subst}
 use mathlib.Core.List.{List, map}
-use Prim.Native.Nat.{ℕ, _+_, _≤_}
+use Prim.Native.Nat.{ℕ, _+_, _-_, _≤_}
 use native.Mathlib.Omega.{arith}
-use lib.ListN.{length, take, drop}
+use lib.ListN.{length, take, drop, length-drop}
 use borrow.Author.Needs.{needs}
 use borrow.Author.Tests.{not-true, not-false}
 use denote.Ref.{now}
@@ -13,6 +13,7 @@ use Rattle.meaning.specs.Cell.{dateLike, front, past, isLetter, capital, pastMi
 use Rattle.cell.specs.Says.{classSays}
 use Rattle.cell.specs.Digits.{minusCount}
 use Rattle.cell.proofs.Runs.{run-taken, run-fits}
+use Rattle.cell.proofs.NumberSteps.{minus-fits}
 use Rattle.cell.proofs.DateSteps.{days-at, minus-at-most, no-month-text, no-day-text, date-text}
 use Rattle.cell.proofs.dates.date_in.Statement.{statement}
 use Rattle.cell.proofs.dates.date_in.Tie as tie
@@ -65,7 +66,13 @@ add-place c =
     omega (arith, start)
 
 day-at-requires : tie.Need-day-at-requires
-day-at-requires c κs = search needs
+day-at-requires c κs =
+    let cell = now (c .before .before .before .before .before .before .before .args .text) in
+    let letters = c .before .before .before .letters-in in
+    let fits : letters .result ≤ length cell = rw (letters .ensures) (run-fits isLetter cell) in
+    let rest : length (drop (letters .result) cell) ≡ length cell - letters .result = length-drop (letters .result) cell in
+    let minus : c .minus-at .result ≤ length (drop (letters .result) cell) = rw (c .minus-at .ensures) (minus-fits (drop (letters .result) cell)) in
+    omega arith
 
 returns-3 : tie.Need-returns-3
 unfolding classSays

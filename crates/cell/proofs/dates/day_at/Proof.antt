@@ -1,61 +1,30 @@
--- `cell::dates::day_at` meets its contract: each `return` is a day's test that fails, and at the end all of them hold.
+-- `cell::dates::day_at` meets its contract: three digits or more make no day, and of fewer `near_day` answers.
 -- Assumes nothing.
-use mathlib.Core.Path.{_≡_, sym, _∙_}
+use mathlib.Core.Path.{_≡_, sym}
+use Prim.Native.Nat.{_<_}
 use native.Mathlib.Omega.{arith}
-use borrow.Author.Needs.{needs}
-use borrow.Author.Tests.{not-true, not-false}
+use lib.ListN.{length, drop, length-drop}
 use denote.Ref.{now}
-use Rattle.cell.proofs.DateSteps.{day-not-last, day-padded, day-late, day-there}
+use Rattle.cell.proofs.DateSteps.{day-long}
+use borrow.Author.Needs.{needs}
 use Rattle.cell.proofs.dates.day_at.Statement.{statement}
 use Rattle.cell.proofs.dates.day_at.Tie as tie
 
-digits-at-requires : tie.Need-digits-at-requires
-digits-at-requires c κs = search needs
+sub-if1 : tie.Need-sub-if1
+sub-if1 c = search needs
 
 returns : tie.Need-returns
 returns c =
-    let a = c .before .before .before .args in
-    let d = c .before .digits-at in
-    sym (day-not-last (now (a .text)) (a .place) (d .result .value) (d .result .end) (d .ensures) (c .if1 .taken))
+    let a = c .before .before .args in
+    let digits = drop (a .place) (now (a .text)) in
+    let long : 2 < length (drop (a .place) (now (a .text))) = rw (length-drop (a .place) (now (a .text))) (c .if1 .taken) in
+    sym (day-long digits long)
 
-sub-unpadded : tie.Need-sub-unpadded
-sub-unpadded c = search needs
-
-unpadded-requires : tie.Need-unpadded-requires
-unpadded-requires c κs = search needs
+near-day-requires : tie.Need-near-day-requires
+near-day-requires c κs = search needs
 
 returns-2 : tie.Need-returns-2
-returns-2 c =
-    let a = c .before .before .before .before .before .args in
-    let d = c .before .before .before .digits-at in
-    let off = sym (c .before .unpadded .ensures) ∙ not-true (c .before .unpadded .result) (c .if2 .taken) in
-    sym (day-padded (now (a .text)) (a .place) (d .result .value) (d .result .end) (d .ensures) off)
-
-returns-3 : tie.Need-returns-3
-returns-3 c =
-    let a = c .before .before .before .before .before .before .args in
-    let d = c .before .before .before .before .digits-at in
-    sym (day-late (now (a .text)) (a .place) (d .result .value) (d .result .end) (d .ensures) (c .if3 .taken))
-
-cast-result : tie.Need-cast-result
-cast-result c = search needs
-
-returns-4 : tie.Need-returns-4
-returns-4 c =
-    let a = c .before .before .before .before .before .before .args in
-    let d = c .before .before .before .before .digits-at in
-    let on = sym (c .before .before .unpadded .ensures) ∙ not-false (c .before .before .unpadded .result) (c .before .if2 .left) in
-    day-there (now (a .text)) (a .place) (d .result .value) (d .result .end) (d .ensures) (c .before .before .before .if1 .left) on (c .if3 .left)
+returns-2 c = search needs
 
 pub day-at-spec : {M : Type 1} → statement M
-day-at-spec =
-    tie.close
-    (tie.spec
-    digits-at-requires
-    returns
-    sub-unpadded
-    unpadded-requires
-    returns-2
-    returns-3
-    cast-result
-    returns-4)
+day-at-spec = tie.close (tie.spec sub-if1 returns near-day-requires returns-2)

@@ -4,21 +4,23 @@
 use mathlib.Core.Path.{_≡_, refl, sym, ap, _∙_}
 use mathlib.Core.Bool.{true}
 use mathlib.Core.List.{List, [], _∷_}
-use Prim.Native.Nat.{ℕ, _+_, _-_, _<_}
+use Prim.Native.Nat.{ℕ, _+_, _-_, _*_, _<_}
 use native.Mathlib.Omega.{arith}
 use lib.ListN.{length, getD, drop}
 use borrow.Author.Tests.{not-true, not-false}
 use denote.Ref.{now}
-use Rattle.meaning.specs.Cell.{front, isDigit}
-use Rattle.cell.specs.Digits.{grownBy, grownOn, DigitsAt}
-use Rattle.cell.proofs.Runs.{run-on, run-ends, run-none}
+use Rattle.meaning.specs.Cell.{readOn, front, isDigit}
+use Rattle.meaning.proofs.cell.DigitLaws.{digit-true}
+use Rattle.cell.specs.Digits.{Room, DigitsAt}
+use Rattle.cell.proofs.Runs.{run-on, run-ends, run-none, room-fits, room-on}
 use Rattle.cell.proofs.digits.digits_at.Statement.{statement}
 use Rattle.cell.proofs.digits.digits_at.Tie as tie
 
 abbrev Inv-loop : tie.InvT-loop
 Inv-loop text from start value₀ i₀ value i =
-    (grownOn value (front isDigit (drop i text)) ≡ grownOn start (front isDigit (drop from text)))
+    (readOn value (front isDigit (drop i text)) ≡ readOn start (front isDigit (drop from text)))
     × (i + length (front isDigit (drop i text)) ≡ from + length (front isDigit (drop from text)))
+    × Room text i value
 
 abbrev μ-loop : tie.MeasureT-loop
 μ-loop text from start value₀ i₀ value i = length text - i
@@ -26,23 +28,24 @@ abbrev μ-loop : tie.MeasureT-loop
 -- where no digit is left, the value and the place are those of all digits
 ended : (text : List ℕ) (from start value i : ℕ) → Inv-loop text from start start from value i → front isDigit (drop i text) ≡ []
     → DigitsAt text from start value i
-unfolding grownOn
+unfolding readOn
 ended text from start value i inv none =
     let at : i + 0 ≡ from + length (front isDigit (drop from text)) = ap (λ (l : List ℕ). i + length l) (sym none) ∙ inv .1 in
-    record { value = ap (grownOn value) (sym none) ∙ inv .0; end = omega arith }
+    record { value = ap (readOn value) (sym none) ∙ inv .0; end = omega arith; left = inv .2 }
 
 -- one digit on
 digit-on : (text : List ℕ) (from start value i new : ℕ) → Inv-loop text from start start from value i → i < length text
-    → isDigit (getD text i 0) ≡ true → new ≡ grownBy value (getD text i 0) → Inv-loop text from start start from new (i + 1)
-unfolding grownOn
+    → isDigit (getD text i 0) ≡ true → new ≡ value * 10 + (getD text i 0 - 0x30) → Inv-loop text from start start from new (i + 1)
+unfolding readOn
 digit-on text from start value i new inv h e more =
     let run = run-on isDigit text i h e in
     let at : i + length (getD text i 0 ∷ front isDigit (drop (i + 1) text)) ≡ from + length (front isDigit (drop from text)) =
     ap (λ (l : List ℕ). i + length l) (sym run) ∙ inv .1 in
-    (rw more (ap (grownOn value) (sym run) ∙ inv .0), omega arith)
+    let digit = digit-true (getD text i 0) e in
+    (rw more (ap (readOn value) (sym run) ∙ inv .0), omega arith, rw more (room-on text i value (getD text i 0 - 0x30) (inv .2) h (omega arith)))
 
 loop-holds : tie.Need-loop-holds Inv-loop μ-loop
-loop-holds c = (refl, refl)
+loop-holds c = (refl, refl, c .before .pre)
 
 shared-slice-read-b : tie.Need-shared-slice-read-b Inv-loop μ-loop
 shared-slice-read-b c = omega arith
@@ -58,7 +61,10 @@ returns c =
     ended (now (a .text)) (a .from) (a .start) (l .value) (l .i) (l .inv) (run-ends isDigit (now (a .text)) (l .i) (omega arith) off)
 
 grown-requires : tie.Need-grown-requires Inv-loop μ-loop
-grown-requires c κs = sym (c .before .is-digit .ensures) ∙ not-false (c .before .is-digit .result) (c .if1 .left)
+grown-requires c κs =
+    let text = now (c .before .before .before .before .before .before .args .text) in
+    let l = c .before .before .before .before .loop in
+    (sym (c .before .is-digit .ensures) ∙ not-false (c .before .is-digit .result) (c .if1 .left), room-fits text (l .i) (l .value) (l .inv .2) (omega arith))
 
 add-i : tie.Need-add-i Inv-loop μ-loop
 add-i c = omega arith
