@@ -11,3 +11,4 @@ pub mod Calls
 pub mod Demands
 pub mod Cases
 pub mod CheckProgram
+pub mod Mending
