@@ -45,3 +45,41 @@ pub kept-before : (fate : Fate) (e : ℕ) (rest more : List ℕ) → keptOn fate
 unfolding keptOn
 kept-before kept e rest more = refl
 kept-before (droppedBy kind) e rest more = refl
+
+-- ---- the cases, one by one
+
+pub fate-open : {k left next : ℕ} {fate : Fate} → Seen k left zero fate next → (fate ≡ kept) × (next ≡ suc left)
+fate-open anOpen = (refl, refl)
+
+pub fate-close : {k left next : ℕ} {fate : Fate} → Seen k (suc left) (suc zero) fate next → (fate ≡ kept) × (next ≡ left)
+fate-close aClose = (refl, refl)
+
+pub fate-loose : {k next : ℕ} {fate : Fate} → Seen k zero (suc zero) fate next → (fate ≡ droppedBy closeDropped) × (next ≡ zero)
+fate-loose aLooseClose = (refl, refl)
+
+pub fate-letter : {k left a next : ℕ} {fate : Fate} → Seen k left (suc (suc a)) fate next → suc (suc a) < k + 2
+    → (fate ≡ kept) × (next ≡ left)
+fate-letter (aLetter known) h = (refl, refl)
+fate-letter (anUnknown unknown) h = absurd (omega arith)
+
+pub fate-unknown : {k left a next : ℕ} {fate : Fate} → Seen k left (suc (suc a)) fate next → k + 2 ≤ suc (suc a)
+    → (fate ≡ droppedBy letterDropped) × (next ≡ left)
+fate-unknown (aLetter known) h = absurd (omega arith)
+fate-unknown (anUnknown unknown) h = (refl, refl)
+
+-- an event that is not kept is dropped by a change of a kind, and as many opens are left as before it
+pub fate-dropped : {k left e next : ℕ} {fate : Fate} → Seen k left e fate next → (fate ≡ kept → ⊥)
+    → (next ≡ left) × ((kind : ℕ) × (fate ≡ droppedBy kind))
+fate-dropped anOpen not-kept = absurd (not-kept refl)
+fate-dropped aLooseClose not-kept = (refl, (closeDropped, refl))
+fate-dropped aClose not-kept = absurd (not-kept refl)
+fate-dropped (aLetter known) not-kept = absurd (not-kept refl)
+fate-dropped (anUnknown unknown) not-kept = (refl, (letterDropped, refl))
+
+-- no event leaves more than one open more
+pub left-one : {k left e next : ℕ} {fate : Fate} → Seen k left e fate next → next ≤ left + 1
+left-one anOpen = omega arith
+left-one aLooseClose = omega arith
+left-one aClose = omega arith
+left-one (aLetter known) = omega arith
+left-one (anUnknown unknown) = omega arith

@@ -1,0 +1,4 @@
+// Mending broken streams (document 02, L9).
+pub mod fates;
+pub mod seeking;
+pub mod planning;
