@@ -11,7 +11,7 @@ use lib.Seq.{take-length}
 use Rattle.meaning.specs.declared.Change.{Change}
 use Rattle.meaning.specs.declared.Written.{Written}
 use Rattle.meaning.specs.declared.Mended.the-variants as answered
-use Rattle.meaning.specs.Answers.{Answer, given, refused}
+use Rattle.meaning.specs.Answers.{given, refused, _≤?_}
 use Rattle.meaning.specs.RuleFile.{isLetters}
 use Rattle.meaning.specs.FullReading.{eventOf}
 use Rattle.meaning.specs.Calls.{refusalSays}
@@ -69,7 +69,9 @@ module _ (k : ℕ) (events : List ℕ) (room listRoom : ℕ) where
 
   pub refused-4-many : 256 < k → mendAnswer k events room listRoom ≡ refused 4 0
   unfolding mendAnswer isLetters
-  refused-4-many h = let f = lt-leb k 256 h in refuse-stops 4 0 _ (ap not (and-false-right _ f))
+  refused-4-many h =
+      let f : isLetters k ≡ false = and-false-right (1 ≤? k) (lt-leb k 256 h) in
+      refuse-stops 4 0 _ (ap not f)
 
   module _ (some : 0 < k) (few : k ≤ 256) where
     passes-4 : not (isLetters k) ≡ false
