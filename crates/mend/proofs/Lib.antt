@@ -1,2 +1,4 @@
 pub mod Kept
 pub mod Plans
+pub mod Laid
+pub mod Noting

@@ -52,9 +52,14 @@ loop-again c =
     let f = c .find-drop2 .result in
     let q = c .find-drop2 .ensures in
     let here = at-drop (a .letters) (a .events .now) (s .found .place) (s .found .left) (omega arith) (s .inv .3 (omega arith)) in
-    let past = past-run (a .letters) (a .events .now) (s .found .place + 1) (s .found .left) (f .place) (f .left) (q .keeps) in
-    (q .keeps .within, kept-few (a .letters) (a .events .now) (q .keeps) (omega arith), omega (arith, q .keeps .further), q .stops,
-    omega (arith, s .inv .4, ap length (here .0), ap length (past .0)), sym (past .2) ∙ (sym (here .2) ∙ s .inv .5))
+    let past = past-run (a .letters) (a .events .now) (s .found .place + 1) (s .found .left) (f .place) (f .left) (q .keeps) in (
+      q .keeps .within,
+      kept-few (a .letters) (a .events .now) (q .keeps) (omega arith),
+      omega (arith, q .keeps .further),
+      q .stops,
+      omega (arith, s .inv .4, ap length (here .0), ap length (past .0)),
+      sym (past .2) ∙ (sym (here .2) ∙ s .inv .5),
+    )
 
 returns : tie.Need-returns Inv-loop μ-loop
 unfolding droppedFrom opensLeft
