@@ -7,7 +7,7 @@
 --     answers      a callee whose requirement holds `Gives` what it returned, and each holder what it has after it (`InPlace.antt`),
 --                  or any Y that this tells.        replies-one    the same at an entry of the tables, where the contract allows
 --                  one answer and one last value of each reference.        replies-with    where it allows several answers and
---                  one last value of each. The contract is asked in the form to which the triple of a function's contract
+--                  one last value of each.        replies-told    where each answer has last values of its own. The contract is asked in the form to which the triple of a function's contract
 --                  computes, so that a proof hands in the callee's theorem as it is
 use mathlib.Core.Path.{_≡_, refl, _∙_, ap, subst}
 use Prim.Native.Nat.{ℕ, _<_, _^_}
@@ -202,3 +202,10 @@ module _ {M : Type 1} {𝓤 : URA M} {H : Heap 𝓤} {A : Atoms 𝓤} (W : Given
   replies-with ψ lasts met exact =
       answers 𝓤 H A W ways R val tl φ Pre (𝓣 .C f) (Said R val ψ) (λ x. val (x .answer)) (λ _. afters 𝓤 H A ways lasts) (λ x. record { answer = x .answer; says = exact (x .answer) (x .lasts) (x .says) .0; fits = x .fits })
       (λ x. refl) (λ x. ap (afters 𝓤 H A ways) (exact (x .answer) (x .lasts) (x .says) .1)) (fmOf 𝓤 H (W .laws) 𝓣 f) required met
+
+  -- several answers, each with last values of its own
+  pub replies-told : ((z : Chosen 𝓤 H A ways) → Keeps 𝓤 H A W ways R val tl φ Pre (𝓣 .C f) z)
+      → Gives 𝓤 H A (𝓣 .C f) (befores 𝓤 H A ways) (machines 𝓤 H A ways) (Returned 𝓤 H A ways R val φ) (λ x. val (x .answer)) (λ x. afters 𝓤 H A ways (x .lasts))
+  replies-told met =
+      answers 𝓤 H A W ways R val tl φ Pre (𝓣 .C f) (Returned 𝓤 H A ways R val φ) (λ x. val (x .answer)) (λ x. afters 𝓤 H A ways (x .lasts)) (λ x. x) (λ x. refl) (λ x. refl)
+      (fmOf 𝓤 H (W .laws) 𝓣 f) required met
