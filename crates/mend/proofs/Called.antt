@@ -35,7 +35,7 @@ use Rattle.mend.proofs.planning.Plan as Pl
 use Rattle.mend.proofs.planning.Plan.Laws as Pl′
 use Rattle.levels.proofs.Values.{Valued, FitsIn, passed, of-struct, of-enum}
 use Rattle.levels.proofs.InPlace.{Gives}
-use Rattle.levels.proofs.Passing.{Way, Lasts, Returned, Said, lent, by-value, number, replies-one, replies-with, replies-told}
+use Rattle.levels.proofs.Passing.{Said, Told, lent, by-value, number, replies-one, replies-with, replies-told}
 use Rattle.levels.proofs.Loans.{at-list, MutLoan, as-mut, ShrLoan, as-shr}
 use Rattle.mend.proofs.Element.{record-type, machine, machines, Fits, makes, change-value}
 use Rattle.mend.proofs.list.list_room as list-room
@@ -106,21 +106,16 @@ module _ {M : Type 1} {𝓤 : URA M} {H : Heap 𝓤} {A : Atoms 𝓤} (W : Given
 
   -- ---- over the output
 
-  -- the arguments of `note_next`, and what it answers and leaves
-  module _ (k : ℕ) (events : List ℕ) (end : ℕ) (at : Standing) (output : List ℕ) {b₀ o₀ n₀ b₁ o₁ n₁ : ℕ} (l₀ : ShrLoan 𝓤 H A u16 b₀ o₀ n₀ events) (l₁ : MutLoan 𝓤 H A u16 b₁ o₁ n₁ output)
-      (f₀ : k < 2 ^ 16) (f₂ : end < 2 ^ 64) (f₃ : FitsIn standing-value at) where
-    abbrev pub note-ways : List (Way 𝓤 H A)
-    note-ways = number 𝓤 H A W w16 k f₀ ∷ lent (as-shr 𝓤 H A u16 b₀ o₀ n₀ events l₀) ∷ number 𝓤 H A W w64 end f₂ ∷ passed standing-value at f₃ ∷ lent (as-mut 𝓤 H A u16 b₁ o₁ n₁ output l₁) ∷ []
-
-    abbrev pub Notes : noted-value .row .Denot → Lasts 𝓤 H A note-ways → Type 0
-    Notes x ws = NotedOne k (take end events) at output x (ws .1 .1 .1 .1 .0)
-
-    pub note-next-by : Meets 𝓤 H A note-next.signature (𝓣 .C #note-next) (note-next.spec 𝓤 H A at-mem run) → CanNote k events end at output
-        → Gives 𝓤 H A (𝓣 .C #note-next) (l₀ .before ∷ l₁ .before ∷ []) (vint w16 k ∷ sliceVal (b₀, o₀) n₀ ∷ vint w64 end ∷ standing-value .val at ∷ sliceVal (b₁, o₁) n₁ ∷ [])
-        (Returned 𝓤 H A note-ways (noted-value .row) (noted-value .val) Notes) (λ x. noted-value .val (x .answer)) (λ x. l₀ .before ∷ l₁ .after (x .lasts .1 .1 .1 .1 .0) ∷ [])
-    note-next-by known can =
-        replies-told W 𝓣 #note-next note-ways (noted-value .row) (noted-value .val) (noted-value .tells) Notes (fact 𝓤 (CanNote k events end at output)) (factI 𝓤 (CanNote k events end at output) (emp 𝓤) can)
-        (λ z. known (((l₀ .lifetime (z .0), (l₁ .lifetime (z .1 .0), tt)), (l₀ .share (z .0), (l₁ .share (z .1 .0), tt)), tt, (k, (at-list u16 (l₀ .name (z .0)) b₀ o₀ events, (end, (at, (at-list u16 (l₁ .name (z .1 .0)) b₁ o₁ output, tt))))), (vint w16 k ∷ [], (sliceVal (b₀, o₀) n₀ ∷ [], (vint w64 end ∷ [], (standing-value .val at ∷ [], (sliceVal (b₁, o₁) n₁ ∷ [], tt)))))), tt))
+  pub note-next-by : (k : ℕ) (events : List ℕ) (end : ℕ) (at : Standing) (output : List ℕ) → Meets 𝓤 H A note-next.signature (𝓣 .C #note-next) (note-next.spec 𝓤 H A at-mem run) → {b₀ o₀ n₀ b₁ o₁ n₁ : ℕ} (l₀ : ShrLoan 𝓤 H A u16 b₀ o₀ n₀ events) (l₁ : MutLoan 𝓤 H A u16 b₁ o₁ n₁ output)
+      → k < 2 ^ 16 → end < 2 ^ 64 → FitsIn standing-value at → CanNote k events end at output
+      → Gives 𝓤 H A (𝓣 .C #note-next) (l₀ .before ∷ l₁ .before ∷ []) (vint w16 k ∷ sliceVal (b₀, o₀) n₀ ∷ vint w64 end ∷ standing-value .val at ∷ sliceVal (b₁, o₁) n₁ ∷ [])
+      (Told (noted-value .row) (noted-value .val) (List ℕ) (λ x zs. NotedOne k (take end events) at output x zs)) (λ x. noted-value .val (x .answer)) (λ x. l₀ .before ∷ l₁ .after (x .last) ∷ [])
+  note-next-by k events end at output known {b₀} {o₀} {n₀} {b₁} {o₁} {n₁} l₀ l₁ f₀ f₂ f₃ can =
+      replies-told W 𝓣 #note-next (number 𝓤 H A W w16 k f₀ ∷ lent (as-shr 𝓤 H A u16 b₀ o₀ n₀ events l₀) ∷ number 𝓤 H A W w64 end f₂ ∷ passed standing-value at f₃ ∷ lent (as-mut 𝓤 H A u16 b₁ o₁ n₁ output l₁) ∷ []) (noted-value .row) (noted-value .val) (noted-value .tells)
+      (λ x ws. NotedOne k (take end events) at output x (ws .1 .1 .1 .1 .0)) (fact 𝓤 (CanNote k events end at output)) (factI 𝓤 (CanNote k events end at output) (emp 𝓤) can)
+      (List ℕ) (λ x zs. NotedOne k (take end events) at output x zs) (λ ws. ws .1 .1 .1 .1 .0) (λ zs. l₀ .before ∷ l₁ .after zs ∷ [])
+      (λ z. known (((l₀ .lifetime (z .0), (l₁ .lifetime (z .1 .0), tt)), (l₀ .share (z .0), (l₁ .share (z .1 .0), tt)), tt, (k, (at-list u16 (l₀ .name (z .0)) b₀ o₀ events, (end, (at, (at-list u16 (l₁ .name (z .1 .0)) b₁ o₁ output, tt))))), (vint w16 k ∷ [], (sliceVal (b₀, o₀) n₀ ∷ [], (vint w64 end ∷ [], (standing-value .val at ∷ [], (sliceVal (b₁, o₁) n₁ ∷ [], tt)))))), tt))
+      (λ x ws e. e) (λ ws. refl)
 
   pub write-rest-by : (events : List ℕ) (end : ℕ) (at : Standing) (left : ℕ) (output : List ℕ) → Meets 𝓤 H A write-rest.signature (𝓣 .C #write-rest) (write-rest.spec 𝓤 H A at-mem run) → {b₀ o₀ n₀ b₁ o₁ n₁ : ℕ} (l₀ : ShrLoan 𝓤 H A u16 b₀ o₀ n₀ events) (l₁ : MutLoan 𝓤 H A u16 b₁ o₁ n₁ output)
       → end < 2 ^ 64 → FitsIn standing-value at → left < 2 ^ 64 → CanEnd events end at left output
@@ -134,20 +129,16 @@ module _ {M : Type 1} {𝓤 : URA M} {H : Heap 𝓤} {A : Atoms 𝓤} (W : Given
 
   -- ---- over both buffers
 
-  module _ (k : ℕ) (events : List ℕ) (end dropped : ℕ) (output : List ℕ) (list : List Change) {b₀ o₀ n₀ b₁ o₁ n₁ b₂ o₂ n₂ : ℕ} (l₀ : ShrLoan 𝓤 H A u16 b₀ o₀ n₀ events) (l₁ : MutLoan 𝓤 H A u16 b₁ o₁ n₁ output) (l₂ : MutLoan 𝓤 H A record-type b₂ o₂ n₂ list)
-      (f₀ : k < 2 ^ 16) (f₂ : end < 2 ^ 64) (f₃ : dropped < 2 ^ 64) where
-    abbrev pub drop-ways : List (Way 𝓤 H A)
-    drop-ways = number 𝓤 H A W w16 k f₀ ∷ lent (as-shr 𝓤 H A u16 b₀ o₀ n₀ events l₀) ∷ number 𝓤 H A W w64 end f₂ ∷ number 𝓤 H A W w64 dropped f₃ ∷ lent (as-mut 𝓤 H A u16 b₁ o₁ n₁ output l₁) ∷ lent (as-mut 𝓤 H A record-type b₂ o₂ n₂ list l₂) ∷ []
-
-    abbrev pub Drops : standing-value .row .Denot → Lasts 𝓤 H A drop-ways → Type 0
-    Drops x ws = WroteDrops k (take end events) dropped output list x (ws .1 .1 .1 .1 .0) (ws .1 .1 .1 .1 .1 .0)
-
-    pub write-drops-by : Meets 𝓤 H A write-drops.signature (𝓣 .C #write-drops) (write-drops.spec 𝓤 H A at-mem run) → CanWrite k events end dropped output list
-        → Gives 𝓤 H A (𝓣 .C #write-drops) (l₀ .before ∷ l₁ .before ∷ l₂ .before ∷ []) (vint w16 k ∷ sliceVal (b₀, o₀) n₀ ∷ vint w64 end ∷ vint w64 dropped ∷ sliceVal (b₁, o₁) n₁ ∷ sliceVal (b₂, o₂) n₂ ∷ [])
-        (Returned 𝓤 H A drop-ways (standing-value .row) (standing-value .val) Drops) (λ x. standing-value .val (x .answer)) (λ x. l₀ .before ∷ l₁ .after (x .lasts .1 .1 .1 .1 .0) ∷ l₂ .after (x .lasts .1 .1 .1 .1 .1 .0) ∷ [])
-    write-drops-by known can =
-        replies-told W 𝓣 #write-drops drop-ways (standing-value .row) (standing-value .val) (standing-value .tells) Drops (fact 𝓤 (CanWrite k events end dropped output list)) (factI 𝓤 (CanWrite k events end dropped output list) (emp 𝓤) can)
-        (λ z. known (((l₀ .lifetime (z .0), (l₁ .lifetime (z .1 .0), (l₂ .lifetime (z .1 .1 .0), tt))), (l₀ .share (z .0), (l₁ .share (z .1 .0), (l₂ .share (z .1 .1 .0), tt))), tt, (k, (at-list u16 (l₀ .name (z .0)) b₀ o₀ events, (end, (dropped, (at-list u16 (l₁ .name (z .1 .0)) b₁ o₁ output, (at-list record-type (l₂ .name (z .1 .1 .0)) b₂ o₂ list, tt)))))), (vint w16 k ∷ [], (sliceVal (b₀, o₀) n₀ ∷ [], (vint w64 end ∷ [], (vint w64 dropped ∷ [], (sliceVal (b₁, o₁) n₁ ∷ [], (sliceVal (b₂, o₂) n₂ ∷ [], tt))))))), tt))
+  pub write-drops-by : (k : ℕ) (events : List ℕ) (end dropped : ℕ) (output : List ℕ) (list : List Change) → Meets 𝓤 H A write-drops.signature (𝓣 .C #write-drops) (write-drops.spec 𝓤 H A at-mem run) → {b₀ o₀ n₀ b₁ o₁ n₁ b₂ o₂ n₂ : ℕ} (l₀ : ShrLoan 𝓤 H A u16 b₀ o₀ n₀ events) (l₁ : MutLoan 𝓤 H A u16 b₁ o₁ n₁ output) (l₂ : MutLoan 𝓤 H A record-type b₂ o₂ n₂ list)
+      → k < 2 ^ 16 → end < 2 ^ 64 → dropped < 2 ^ 64 → CanWrite k events end dropped output list
+      → Gives 𝓤 H A (𝓣 .C #write-drops) (l₀ .before ∷ l₁ .before ∷ l₂ .before ∷ []) (vint w16 k ∷ sliceVal (b₀, o₀) n₀ ∷ vint w64 end ∷ vint w64 dropped ∷ sliceVal (b₁, o₁) n₁ ∷ sliceVal (b₂, o₂) n₂ ∷ [])
+      (Told (standing-value .row) (standing-value .val) (List ℕ × List Change) (λ x zs. WroteDrops k (take end events) dropped output list x (zs .0) (zs .1))) (λ x. standing-value .val (x .answer)) (λ x. l₀ .before ∷ l₁ .after (x .last .0) ∷ l₂ .after (x .last .1) ∷ [])
+  write-drops-by k events end dropped output list known {b₀} {o₀} {n₀} {b₁} {o₁} {n₁} {b₂} {o₂} {n₂} l₀ l₁ l₂ f₀ f₂ f₃ can =
+      replies-told W 𝓣 #write-drops (number 𝓤 H A W w16 k f₀ ∷ lent (as-shr 𝓤 H A u16 b₀ o₀ n₀ events l₀) ∷ number 𝓤 H A W w64 end f₂ ∷ number 𝓤 H A W w64 dropped f₃ ∷ lent (as-mut 𝓤 H A u16 b₁ o₁ n₁ output l₁) ∷ lent (as-mut 𝓤 H A record-type b₂ o₂ n₂ list l₂) ∷ []) (standing-value .row) (standing-value .val) (standing-value .tells)
+      (λ x ws. WroteDrops k (take end events) dropped output list x (ws .1 .1 .1 .1 .0) (ws .1 .1 .1 .1 .1 .0)) (fact 𝓤 (CanWrite k events end dropped output list)) (factI 𝓤 (CanWrite k events end dropped output list) (emp 𝓤) can)
+      (List ℕ × List Change) (λ x zs. WroteDrops k (take end events) dropped output list x (zs .0) (zs .1)) (λ ws. (ws .1 .1 .1 .1 .0, ws .1 .1 .1 .1 .1 .0)) (λ zs. l₀ .before ∷ l₁ .after (zs .0) ∷ l₂ .after (zs .1) ∷ [])
+      (λ z. known (((l₀ .lifetime (z .0), (l₁ .lifetime (z .1 .0), (l₂ .lifetime (z .1 .1 .0), tt))), (l₀ .share (z .0), (l₁ .share (z .1 .0), (l₂ .share (z .1 .1 .0), tt))), tt, (k, (at-list u16 (l₀ .name (z .0)) b₀ o₀ events, (end, (dropped, (at-list u16 (l₁ .name (z .1 .0)) b₁ o₁ output, (at-list record-type (l₂ .name (z .1 .1 .0)) b₂ o₂ list, tt)))))), (vint w16 k ∷ [], (sliceVal (b₀, o₀) n₀ ∷ [], (vint w64 end ∷ [], (vint w64 dropped ∷ [], (sliceVal (b₁, o₁) n₁ ∷ [], (sliceVal (b₂, o₂) n₂ ∷ [], tt))))))), tt))
+      (λ x ws e. e) (λ ws. refl)
 
   pub list-added-by : (list : List Change) (from count end : ℕ) → Meets 𝓤 H A list-added.signature (𝓣 .C #list-added) (list-added.spec 𝓤 H A at-mem run) → {b o n : ℕ} (l : MutLoan 𝓤 H A record-type b o n list) → from < 2 ^ 64 → count < 2 ^ 64 → end < 2 ^ 64 → from + count ≤ length list
       → Gives 𝓤 H A (𝓣 .C #list-added) (l .before ∷ []) (sliceVal (b, o) n ∷ vint w64 from ∷ vint w64 count ∷ vint w64 end ∷ [])
