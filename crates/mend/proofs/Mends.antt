@@ -97,7 +97,7 @@ module _ (k : ℕ) (events output : List ℕ) (list : List Change) (p : Plan) (p
         let n : ℕ = p .end - at .place in
         let few : at .laid + n ≤ length K = omega (arith, to-end) in
         let inner : paste out (at .laid) (drop (at .place) es) n ≡ laidAtFront K output =
-            rw (← rest, w .outputIs) (upTo-paste (at .laid) n K output few (omega (arith, plan .hasRoom, mended-long, s .laidIn)) ∙ (ap (λ (m : ℕ). upTo m K output) to-end ∙ upTo-all K output))
+        rw (← rest, w .outputIs) (upTo-paste (at .laid) n K output few (omega (arith, plan .hasRoom, mended-long, s .laidIn)) ∙ (ap (λ (m : ℕ). upTo m K output) to-end ∙ upTo-all K output))
         in
         let closes : List ℕ = replicate (p .left) 1 in
         let same : length closes ≡ p .left = length-replicate (p .left) 1 in
