@@ -6,3 +6,4 @@ pub mod Element
 pub mod WritesOn
 pub mod Mends
 pub mod Called
+pub mod OneOutcome
