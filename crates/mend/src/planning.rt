@@ -41,10 +41,10 @@ pub fn plan_of(k: u16, events: &[u16], room: usize, list_room: usize) -> Plan
     }
     let counted = count_changes(k, events);
     let count = events.len() - counted.dropped + counted.left;
+    let changes = counted.dropped + counted.left;
     if room < count {
         return refused(27, count);
     }
-    let changes = counted.dropped + counted.left;
     if list_room < changes {
         return refused(28, changes);
     }

@@ -54,21 +54,21 @@ add-count c =
     let q = c .before .before .count-changes .ensures in
     omega (arith, q .leftAre, left-few 0 (a .events .now))
 
+add-changes : tie.Need-add-changes
+add-changes c =
+    let a = c .before .before .before .before .before .before .before .args in
+    let q = c .before .before .before .count-changes .ensures in
+    omega (arith, q .leftAre, left-few 0 (a .events .now), q .droppedAre, kept-and-dropped (a .k) 0 0 (a .events .now))
+
 refused-requires-3 : tie.Need-refused-requires-3
 refused-requires-3 c κs = search needs
 
 returns-3 : tie.Need-returns-3
 returns-3 c =
-    let a = c .before .before .before .before .before .before .before .before .args in
-    let n = whole-counts (c .before .before .before .before) in
+    let a = c .before .before .before .before .before .before .before .before .before .args in
+    let n = whole-counts (c .before .before .before .before .before) in
     let e = n .0 in
     rw (c .refused3 .ensures, ← e) (plan-refused (a .k) (a .events .now) (a .room) (a .list-room) 27 _ (refused-27 (a .k) (a .events .now) (a .room) (a .list-room) (omega arith) (omega arith) (omega arith)))
-
-add-changes : tie.Need-add-changes
-add-changes c =
-    let a = c .before .before .before .before .before .before .before .before .args in
-    let q = c .before .before .before .before .count-changes .ensures in
-    omega (arith, q .leftAre, left-few 0 (a .events .now), q .droppedAre, kept-and-dropped (a .k) 0 0 (a .events .now))
 
 refused-requires-4 : tie.Need-refused-requires-4
 refused-requires-4 c κs = search needs
@@ -101,9 +101,9 @@ plan-of-spec =
     count-changes-requires
     sub-count
     add-count
+    add-changes
     refused-requires-3
     returns-3
-    add-changes
     refused-requires-4
     returns-4
     returns-5)
