@@ -19,6 +19,7 @@ pub mod book;
 pub mod calls;
 pub mod check;
 pub mod hedge;
+pub mod mend;
 pub mod numbers;
 pub mod positions;
 pub mod reading;

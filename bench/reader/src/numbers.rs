@@ -36,6 +36,10 @@ pub const OUTPUT_SHORT: u8 = 14;
 pub const ROUNDS: u8 = 15;
 /// 4,294,967,295 events already taken; place: the event.
 pub const EVENTS_USED_UP: u8 = 16;
+/// Output of mending too short; place: events needed.
+pub const MENDED_SHORT: u8 = 27;
+/// Change list too short; place: changes needed.
+pub const CHANGES_SHORT: u8 = 28;
 
 /// A number with its place.
 #[derive(Clone, Copy, Debug, PartialEq, Eq, Hash)]
