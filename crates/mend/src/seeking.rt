@@ -70,8 +70,8 @@ fn keep_run(letters: u16, events: &[u16], place: usize, left: usize, stop: usize
     }
 }
 
-// The next event that is dropped, from a place on with so many opens left.
-pub fn find_drop(letters: u16, events: &[u16], place: usize, left: usize) -> Found
+// The next event that is dropped, from a place on with so many opens left, by runs of kept events.
+fn seek_drop(letters: u16, events: &[u16], place: usize, left: usize) -> Found
     requires { ⌜ letters ≤ 256 ⌝ ∗ ⌜ place ≤ length (now events) ⌝ ∗ ⌜ left ≤ place ⌝ }
     ensures { λ r. ⌜ FoundDrop letters (now (events .entry)) place left r ⌝ }
 {
@@ -95,6 +95,20 @@ pub fn find_drop(letters: u16, events: &[u16], place: usize, left: usize) -> Fou
         place: run.place,
         left: run.left,
     }
+}
+
+// The next event that is dropped: the next event itself, where one is dropped after the other, or else by runs.
+pub fn find_drop(letters: u16, events: &[u16], place: usize, left: usize) -> Found
+    requires { ⌜ letters ≤ 256 ⌝ ∗ ⌜ place ≤ length (now events) ⌝ ∗ ⌜ left ≤ place ⌝ }
+    ensures { λ r. ⌜ FoundDrop letters (now (events .entry)) place left r ⌝ }
+{
+    if place < events.len() {
+        let kind = kind_of(letters, left, events[place]);
+        if kind != 0 {
+            return Found { place, left };
+        }
+    }
+    seek_drop(letters, events, place, left)
 }
 
 // One pass over the events.
