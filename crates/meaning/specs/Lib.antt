@@ -1,4 +1,4 @@
--- The definitions, a file for each heading of document 01, in its order.
+-- The definitions, a file for each heading of document 01, in its order, and then one for a request of document 02.
 pub mod Answers
 pub mod RuleFile
 pub mod FullReading
