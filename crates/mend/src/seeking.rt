@@ -116,7 +116,7 @@ pub fn count_changes(letters: u16, events: &[u16]) -> Counted
     requires { ⌜ letters ≤ 256 ⌝ }
     ensures { λ r. ⌜ CountedAll letters (now (events .entry)) r ⌝ }
 {
-    let mut found = find_drop(letters, events, 0, 0);
+    let mut found = seek_drop(letters, events, 0, 0);
     let mut dropped = 0;
     while found.place < events.len() {
         dropped += 1;

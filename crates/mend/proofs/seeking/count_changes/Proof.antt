@@ -22,14 +22,14 @@ Inv-loop letters events found₀ dropped₀ found dropped =
 abbrev μ-loop : tie.MeasureT-loop
 μ-loop letters events found₀ dropped₀ found dropped = length events - found .place
 
-find-drop-requires : tie.Need-find-drop-requires Inv-loop μ-loop
-find-drop-requires c κs = (c .before .pre, (omega arith, omega arith))
+seek-drop-requires : tie.Need-seek-drop-requires Inv-loop μ-loop
+seek-drop-requires c κs = (c .before .pre, (omega arith, omega arith))
 
 loop-holds : tie.Need-loop-holds Inv-loop μ-loop
 loop-holds c =
     let a = c .before .before .args in
-    let f = c .find-drop .result in
-    let q = c .find-drop .ensures in
+    let f = c .seek-drop .result in
+    let q = c .seek-drop .ensures in
     let past = past-run (a .letters) (a .events .now) 0 0 (f .place) (f .left) (q .keeps) in
     (q .keeps .within, kept-few (a .letters) (a .events .now) (q .keeps) (omega arith), omega arith, q .stops, omega (arith, ap length (past .0)), sym (past .2))
 
@@ -39,18 +39,18 @@ add-dropped c = omega arith
 add-find-drop : tie.Need-add-find-drop Inv-loop μ-loop
 add-find-drop c = omega arith
 
-find-drop-requires-2 : tie.Need-find-drop-requires-2 Inv-loop μ-loop
-find-drop-requires-2 c κs = (c .before .before .before .before .before .before .pre, (omega arith, omega arith))
+find-drop-requires : tie.Need-find-drop-requires Inv-loop μ-loop
+find-drop-requires c κs = (c .before .before .before .before .before .before .pre, (omega arith, omega arith))
 
 loop-less : tie.Need-loop-less Inv-loop μ-loop
-loop-less c = omega (arith, c .find-drop2 .ensures .keeps .further)
+loop-less c = omega (arith, c .find-drop .ensures .keeps .further)
 
 loop-again : tie.Need-loop-again Inv-loop μ-loop
 loop-again c =
     let a = c .before .before .before .before .before .before .before .args in
     let s = c .before .before .before .before .loop in
-    let f = c .find-drop2 .result in
-    let q = c .find-drop2 .ensures in
+    let f = c .find-drop .result in
+    let q = c .find-drop .ensures in
     let here = at-drop (a .letters) (a .events .now) (s .found .place) (s .found .left) (omega arith) (s .inv .3 (omega arith)) in
     let past = past-run (a .letters) (a .events .now) (s .found .place + 1) (s .found .left) (f .place) (f .left) (q .keeps) in (
       q .keeps .within,
@@ -76,11 +76,11 @@ count-changes-spec =
     (tie.spec
     Inv-loop
     μ-loop
-    find-drop-requires
+    seek-drop-requires
     loop-holds
     add-dropped
     add-find-drop
-    find-drop-requires-2
+    find-drop-requires
     loop-less
     loop-again
     returns)
