@@ -11,3 +11,6 @@ pub mod Calls
 pub mod Demands
 pub mod Cases
 pub mod CheckProgram
+pub mod JsonKeys
+pub mod JsonGrammar
+pub mod JsonImport

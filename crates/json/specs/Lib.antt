@@ -1,0 +1,2 @@
+-- The reader's definitions.
+pub mod Reader
