@@ -1,0 +1,8 @@
+-- What is proved of the reader.
+pub mod Rows
+pub mod ToTheEnd
+pub mod Spaces
+pub mod Numbers
+pub mod Strings
+pub mod Complete
+pub mod Finishes

@@ -24,7 +24,7 @@ pub data Gap : Type 0 where
 
 -- within a number: after its minus, its first zero, its first digits, its point, digits after that, its e, the sign, digits after that
 pub data InNumber : Type 0 where
-  minus zeroFirst digits point fraction e sign power : InNumber
+  afterMinus zeroFirst digits afterPoint fraction afterE afterSign power : InNumber
 
 -- Within a string: before a character; after the escape; before the last four, three, two, one hex digits; before the last one, two,
 -- three bytes of a character; and after each first byte that the next byte is held to less by.
@@ -114,7 +114,7 @@ unfoldable pub valueRows : ℕ → List Kind → List Row
 valueRows most ks =
     from 0x31 to 0x39 go (λ b. goes (number digits) ks (lays (5 ∷ [])))
     ∷ on 0x30 go goes (number zeroFirst) ks (lays (5 ∷ []))
-    ∷ on 0x2D go goes (number minus) ks (lays (5 ∷ []))
+    ∷ on 0x2D go goes (number afterMinus) ks (lays (5 ∷ []))
     ∷ on 0x22 go goes (string ofValue plain) ks (begins (4 ∷ []))
     ∷ on 0x74 go goes (word 0x72 (0x75 ∷ 0x65 ∷ [])) ks (lays (6 ∷ []))
     ∷ on 0x66 go goes (word 0x61 (0x6C ∷ 0x73 ∷ 0x65 ∷ [])) ks (lays (7 ∷ []))
@@ -159,33 +159,33 @@ unfoldable pub digitRow : InNumber → List Kind → Row
 digitRow n ks = from 0x30 to 0x39 go (λ b. goes (number n) ks silent)
 
 unfoldable pub pointRow : List Kind → Row
-pointRow ks = on 0x2E go goes (number point) ks silent
+pointRow ks = on 0x2E go goes (number afterPoint) ks silent
 
 unfoldable pub smallRow : List Kind → Row
-smallRow ks = on 0x65 go goes (number e) ks silent
+smallRow ks = on 0x65 go goes (number afterE) ks silent
 
 unfoldable pub capitalRow : List Kind → Row
-capitalRow ks = on 0x45 go goes (number e) ks silent
+capitalRow ks = on 0x45 go goes (number afterE) ks silent
 
 -- a number may end, and what follows a value comes next
 unfoldable pub endRows : List Kind → List Row
 endRows ks = spaceRows (gap after) ks ++ afterRows ks
 
 unfoldable pub numberRows : InNumber → List Kind → List Row
-numberRows minus ks =
+numberRows afterMinus ks =
     from 0x31 to 0x39 go (λ b. goes (number digits) ks silent)
     ∷ on 0x30 go goes (number zeroFirst) ks silent
     ∷ []
 numberRows zeroFirst ks = pointRow ks ∷ smallRow ks ∷ capitalRow ks ∷ endRows ks
 numberRows digits ks = digitRow digits ks ∷ pointRow ks ∷ smallRow ks ∷ capitalRow ks ∷ endRows ks
-numberRows point ks = digitRow fraction ks ∷ []
+numberRows afterPoint ks = digitRow fraction ks ∷ []
 numberRows fraction ks = digitRow fraction ks ∷ smallRow ks ∷ capitalRow ks ∷ endRows ks
-numberRows e ks =
+numberRows afterE ks =
     digitRow power ks
-    ∷ on 0x2D go goes (number sign) ks silent
-    ∷ on 0x2B go goes (number sign) ks silent
+    ∷ on 0x2D go goes (number afterSign) ks silent
+    ∷ on 0x2B go goes (number afterSign) ks silent
     ∷ []
-numberRows sign ks = digitRow power ks ∷ []
+numberRows afterSign ks = digitRow power ks ∷ []
 numberRows power ks = digitRow power ks ∷ endRows ks
 
 -- after a string: the colon, or what follows a value
@@ -266,13 +266,13 @@ step most m ks b = lookUp (rows most m ks) b
 
 -- a number may end with the text
 unfoldable pub numberEnds : InNumber → Bool
-numberEnds minus = false
+numberEnds afterMinus = false
 numberEnds zeroFirst = true
 numberEnds digits = true
-numberEnds point = false
+numberEnds afterPoint = false
 numberEnds fraction = true
-numberEnds e = false
-numberEnds sign = false
+numberEnds afterE = false
+numberEnds afterSign = false
 numberEnds power = true
 
 -- the text may end here

@@ -1,11 +1,11 @@
--- JSON texts: the grammar of RFC 8259, production by production under the headings of that paper, over bytes, with the events of
--- each (document 02, L1). A production is a relation of what is read and what is left: `Number s t` says that the bytes s begin
--- with a number and that the bytes t stand after it. So one production after another is one relation after another, as `Int s t`
--- and then `Digits t u`. The RFC's names are kept, and its brackets `[ .. ]`, "may be absent", are `Optional`.
+-- JSON texts: the grammar of RFC 8259, production by production under the headings of that paper, over bytes. A production is a
+-- relation of what is read and what is left: `Number s t` says that the bytes s begin with a number and that the bytes t stand
+-- after it. So one production after another is one relation after another, as `Int s t` and then `Digits t u`. The RFC's names are
+-- kept, and its brackets `[ .. ]`, "may be absent", are `Optional`. What a text holds, and so its events, is the last part of each
+-- relation from the strings on.
 use Prim.Native.Nat.{ℕ, suc, _+_, _*_, _-_, _≤_, _<_}
 use mathlib.Core.List.{List, [], _∷_, _++_}
-use Rattle.meaning.specs.Hedges.{Hedge, ε, _·_, ⟨_⟩·_, eventsOf}
-use Rattle.meaning.specs.JsonKeys.{Piece, byte, unit, keyLetter}
+use Rattle.meaning.specs.JsonKeys.{Piece, byte, unit}
 
 -- ---- the RFC's own words (RFC 5234)
 
@@ -156,19 +156,22 @@ pub data Chars : List ℕ → List ℕ → List Piece → Type 0 where
 pub data String : List ℕ → List ℕ → List Piece → Type 0 where
   string : {s t u v : List ℕ} {ps : List Piece} → Is 0x22 s t → Chars t u ps → Is 0x22 u v → String s v ps
 
--- ---- 3, 4 and 5. Values, objects and arrays, with their events
+-- ---- 3, 4 and 5. Values, objects and arrays
 
--- What a value is among the events: a letter or a tree. A string, a number, true, false and null are letters 2 to 6; an object is
--- a tree that starts with letter 0, an array one that starts with letter 1.
-pub data Item : Type 0 where
-  leaf : ℕ → Item
-  tree : Hedge → Item
+-- what a value holds: of an object its members in order, with the pieces of each key, and of an array its elements
+mutual
+  pub data Doc : Type 0 where
+    isString isNumber isTrue isFalse isNull : Doc
+    isObject : Members → Doc
+    isArray : Elements → Doc
 
--- an item, and then a hedge
-infixr 20 _then_
-unfoldable pub _then_ : Item → Hedge → Hedge
-leaf a then h = a · h
-tree g then h = ⟨ g ⟩· h
+  pub data Members : Type 0 where
+    noMembers : Members
+    membersOn : List Piece → Doc → Members → Members
+
+  pub data Elements : Type 0 where
+    noElements : Elements
+    elementsOn : Doc → Elements → Elements
 
 -- false, null and true, letter by letter
 pub data Word : List ℕ → List ℕ → List ℕ → Type 0 where
@@ -184,42 +187,43 @@ nullWord = 0x6E ∷ 0x75 ∷ 0x6C ∷ 0x6C ∷ []
 abbrev pub trueWord : List ℕ
 trueWord = 0x74 ∷ 0x72 ∷ 0x75 ∷ 0x65 ∷ []
 
--- Letters of keys are those of a list of names. `most` is how many containers, objects and arrays, may be open at once, and the
--- number before the bytes is how many are open around what is read.
+-- `most` is how many containers, objects and arrays, may be open at once, and the number before the bytes is how many are open
+-- around what is read.
 mutual
   -- value = false / null / true / object / array / number / string
   -- object = begin-object [ member *( value-separator member ) ] end-object
   -- array = begin-array [ value *( value-separator value ) ] end-array
-  pub data Value (names : List (List ℕ)) (most : ℕ) : ℕ → List ℕ → List ℕ → Item → Type 0 where
-    aFalse : {d : ℕ} {s t : List ℕ} → Word falseWord s t → Value names most d s t (leaf 5)
-    aNull : {d : ℕ} {s t : List ℕ} → Word nullWord s t → Value names most d s t (leaf 6)
-    aTrue : {d : ℕ} {s t : List ℕ} → Word trueWord s t → Value names most d s t (leaf 4)
-    aNumber : {d : ℕ} {s t : List ℕ} → Number s t → Value names most d s t (leaf 3)
-    aString : {d : ℕ} {s t : List ℕ} {ps : List Piece} → String s t ps → Value names most d s t (leaf 2)
-    emptyObject : {d : ℕ} {s t u : List ℕ} → d < most → BeginObject s t → EndObject t u → Value names most d s u (tree (0 · ε))
-    anObject : {d a : ℕ} {s t u v w : List ℕ} {i : Item} {h : Hedge} → d < most → BeginObject s t → Member names most (suc d) t u a i
-        → MoreMembers names most (suc d) u v h → EndObject v w → Value names most d s w (tree (0 · ⟨ a · (i then ε) ⟩· h))
-    emptyArray : {d : ℕ} {s t u : List ℕ} → d < most → BeginArray s t → EndArray t u → Value names most d s u (tree (1 · ε))
-    anArray : {d : ℕ} {s t u v w : List ℕ} {i : Item} {h : Hedge} → d < most → BeginArray s t → Value names most (suc d) t u i
-        → MoreValues names most (suc d) u v h → EndArray v w → Value names most d s w (tree (1 · (i then h)))
+  pub data Value (most : ℕ) : ℕ → List ℕ → List ℕ → Doc → Type 0 where
+    aFalse : {d : ℕ} {s t : List ℕ} → Word falseWord s t → Value most d s t isFalse
+    aNull : {d : ℕ} {s t : List ℕ} → Word nullWord s t → Value most d s t isNull
+    aTrue : {d : ℕ} {s t : List ℕ} → Word trueWord s t → Value most d s t isTrue
+    emptyObject : {d : ℕ} {s t u : List ℕ} → d < most → BeginObject s t → EndObject t u → Value most d s u (isObject noMembers)
+    anObject : {d : ℕ} {s t u v w : List ℕ} {key : List Piece} {x : Doc} {xs : Members} → d < most → BeginObject s t
+        → Member most (suc d) t u key x → MoreMembers most (suc d) u v xs → EndObject v w
+        → Value most d s w (isObject (membersOn key x xs))
+    emptyArray : {d : ℕ} {s t u : List ℕ} → d < most → BeginArray s t → EndArray t u → Value most d s u (isArray noElements)
+    anArray : {d : ℕ} {s t u v w : List ℕ} {x : Doc} {xs : Elements} → d < most → BeginArray s t → Value most (suc d) t u x
+        → MoreValues most (suc d) u v xs → EndArray v w → Value most d s w (isArray (elementsOn x xs))
+    aNumber : {d : ℕ} {s t : List ℕ} → Number s t → Value most d s t isNumber
+    aString : {d : ℕ} {s t : List ℕ} {ps : List Piece} → String s t ps → Value most d s t isString
 
-  -- member = string name-separator value: its key's letter, and its value
-  pub data Member (names : List (List ℕ)) (most : ℕ) : ℕ → List ℕ → List ℕ → ℕ → Item → Type 0 where
-    member : {d : ℕ} {s t u v : List ℕ} {ps : List Piece} {i : Item} → String s t ps → NameSeparator t u
-        → Value names most d u v i → Member names most d s v (keyLetter names ps) i
+  -- member = string name-separator value
+  pub data Member (most : ℕ) : ℕ → List ℕ → List ℕ → List Piece → Doc → Type 0 where
+    member : {d : ℕ} {s t u v : List ℕ} {key : List Piece} {x : Doc} → String s t key → NameSeparator t u → Value most d u v x
+        → Member most d s v key x
 
-  -- *( value-separator member ): each member is a tree
-  pub data MoreMembers (names : List (List ℕ)) (most : ℕ) : ℕ → List ℕ → List ℕ → Hedge → Type 0 where
-    noMember : {d : ℕ} {s : List ℕ} → MoreMembers names most d s s ε
-    nextMember : {d a : ℕ} {s t u v : List ℕ} {i : Item} {h : Hedge} → ValueSeparator s t → Member names most d t u a i
-        → MoreMembers names most d u v h → MoreMembers names most d s v (⟨ a · (i then ε) ⟩· h)
+  -- *( value-separator member )
+  pub data MoreMembers (most : ℕ) : ℕ → List ℕ → List ℕ → Members → Type 0 where
+    noMember : {d : ℕ} {s : List ℕ} → MoreMembers most d s s noMembers
+    nextMember : {d : ℕ} {s t u v : List ℕ} {key : List Piece} {x : Doc} {xs : Members} → ValueSeparator s t → Member most d t u key x
+        → MoreMembers most d u v xs → MoreMembers most d s v (membersOn key x xs)
 
   -- *( value-separator value )
-  pub data MoreValues (names : List (List ℕ)) (most : ℕ) : ℕ → List ℕ → List ℕ → Hedge → Type 0 where
-    noValue : {d : ℕ} {s : List ℕ} → MoreValues names most d s s ε
-    nextValue : {d : ℕ} {s t u v : List ℕ} {i : Item} {h : Hedge} → ValueSeparator s t → Value names most d t u i
-        → MoreValues names most d u v h → MoreValues names most d s v (i then h)
+  pub data MoreValues (most : ℕ) : ℕ → List ℕ → List ℕ → Elements → Type 0 where
+    noValue : {d : ℕ} {s : List ℕ} → MoreValues most d s s noElements
+    nextValue : {d : ℕ} {s t u v : List ℕ} {x : Doc} {xs : Elements} → ValueSeparator s t → Value most d t u x
+        → MoreValues most d u v xs → MoreValues most d s v (elementsOn x xs)
 
--- JSON-text = ws value ws, with nothing left, and its events as a hedge
-pub data JsonText (names : List (List ℕ)) (most : ℕ) : List ℕ → Hedge → Type 0 where
-  jsonText : {s t u : List ℕ} {i : Item} → Space s t → Value names most 0 t u i → Space u [] → JsonText names most s (i then ε)
+-- JSON-text = ws value ws, with nothing left
+pub data JsonText (most : ℕ) : List ℕ → Doc → Type 0 where
+  jsonText : {s t u : List ℕ} {x : Doc} → Space s t → Value most 0 t u x → Space u [] → JsonText most s x
