@@ -27,9 +27,6 @@ use Rattle.json.proofs.Strings.{string-on, key-on}
 
 -- ---- the events of a value
 
-pub valueEvents : List (List ℕ) → Doc → List ℕ
-valueEvents names x = eventsOf (valueThen names x ε)
-
 module _ (names : List (List ℕ)) where
   -- a value, more of its level, and what follows
   tree-then : (h g : Hedge) (es : List ℕ) → eventsOf (⟨ h ⟩· g) ++ es ≡ eventsOf (⟨ h ⟩· ε) ++ (eventsOf g ++ es)
@@ -38,8 +35,8 @@ module _ (names : List (List ℕ)) where
       ap (λ (l : List ℕ). 0 ∷ l)
       (append-assoc (eventsOf h) (1 ∷ eventsOf g) es ∙ sym (append-assoc (eventsOf h) (1 ∷ []) (eventsOf g ++ es)))
 
-  pub then-on : (x : Doc) (h : Hedge) (es : List ℕ) → eventsOf (valueThen names x h) ++ es ≡ valueEvents names x ++ (eventsOf h ++ es)
-  unfolding valueThen eventsOf valueEvents
+  pub then-on : (x : Doc) (h : Hedge) (es : List ℕ) → eventsOf (valueThen names x h) ++ es ≡ docEvents names x ++ (eventsOf h ++ es)
+  unfolding valueThen eventsOf docEvents
   then-on isString h es = refl
   then-on isNumber h es = refl
   then-on isTrue h es = refl
@@ -55,15 +52,15 @@ module _ (names : List (List ℕ)) where
 
   -- an array's events, those of a member and the members after it, and an object's
   pub array-events : (x : Doc) (xs : Elements) (es : List ℕ)
-      → valueEvents names (isArray (elementsOn x xs)) ++ es ≡ 0 ∷ 3 ∷ (valueEvents names x ++ (eventsOf (elementsHedge names xs) ++ (1 ∷ es)))
-  unfolding valueThen eventsOf valueEvents
+      → docEvents names (isArray (elementsOn x xs)) ++ es ≡ 0 ∷ 3 ∷ (docEvents names x ++ (eventsOf (elementsHedge names xs) ++ (1 ∷ es)))
+  unfolding valueThen eventsOf docEvents
   array-events x xs es =
       tree-on (1 · elementsHedge names (elementsOn x xs)) es
       ∙ ap (λ (l : List ℕ). 0 ∷ 3 ∷ l) (then-on x (elementsHedge names xs) (1 ∷ es))
 
   pub member-events : (key : List Piece) (x : Doc) (xs : Members) (es : List ℕ)
       → eventsOf (membersHedge names (membersOn key x xs)) ++ es
-      ≡ 0 ∷ suc (suc (keyLetter names key)) ∷ (valueEvents names x ++ (1 ∷ (eventsOf (membersHedge names xs) ++ es)))
+      ≡ 0 ∷ suc (suc (keyLetter names key)) ∷ (docEvents names x ++ (1 ∷ (eventsOf (membersHedge names xs) ++ es)))
   unfolding valueThen eventsOf
   member-events key x xs es =
       ap (λ (l : List ℕ). 0 ∷ suc (suc (keyLetter names key)) ∷ l)
@@ -71,9 +68,9 @@ module _ (names : List (List ℕ)) where
       ∙ then-on x ε (1 ∷ (eventsOf (membersHedge names xs) ++ es)))
 
   pub object-events : (key : List Piece) (x : Doc) (xs : Members) (es : List ℕ)
-      → valueEvents names (isObject (membersOn key x xs)) ++ es
-      ≡ 0 ∷ 2 ∷ 0 ∷ suc (suc (keyLetter names key)) ∷ (valueEvents names x ++ (1 ∷ (eventsOf (membersHedge names xs) ++ (1 ∷ es))))
-  unfolding valueThen eventsOf valueEvents
+      → docEvents names (isObject (membersOn key x xs)) ++ es
+      ≡ 0 ∷ 2 ∷ 0 ∷ suc (suc (keyLetter names key)) ∷ (docEvents names x ++ (1 ∷ (eventsOf (membersHedge names xs) ++ (1 ∷ es))))
+  unfolding valueThen eventsOf docEvents
   object-events key x xs es =
       tree-on (0 · membersHedge names (membersOn key x xs)) es
       ∙ ap (λ (l : List ℕ). 0 ∷ 2 ∷ l) (member-events key x xs (1 ∷ es))
@@ -132,10 +129,10 @@ module _ (names : List (List ℕ)) (most : ℕ) where
   ends-object end r key = structurals refl end (r key)
 
   mutual
-    unfolding step rows spaceRows gapRows valueRows emptyArrayRows emptyObjectRows afterRows wordOn lookUp if_then_else_ keyAfter laid valueThen eventsOf valueEvents
+    unfolding step rows spaceRows gapRows valueRows emptyArrayRows emptyObjectRows afterRows wordOn lookUp if_then_else_ keyAfter laid valueThen eventsOf docEvents
 
     value-on : {d : ℕ} {s t : List ℕ} {x : Doc} → Value most d s t x → (ks : List Kind) → length ks ≡ d → (es : List ℕ)
-        → Afterwards ks t es → (f : Bool) (key : List Piece) → Reads names most (gap (value f)) ks key s (valueEvents names x ++ es)
+        → Afterwards ks t es → (f : Bool) (key : List Piece) → Reads names most (gap (value f)) ks key s (docEvents names x ++ es)
     value-on (aFalse one) ks e es r f key = false-on one (r key)
     value-on (aNull one) ks e es r f key = null-on one (r key)
     value-on (aTrue one) ks e es r f key = true-on one (r key)
@@ -154,7 +151,7 @@ module _ (names : List (List ℕ)) (most : ℕ) where
 
     member-on : {d : ℕ} {s t : List ℕ} {k : List Piece} {x : Doc} → Member most d s t k x → (ks : List Kind) → length ks ≡ d
         → (es : List ℕ) → Afterwards ks t es → (f : Bool) (key : List Piece)
-        → Reads names most (gap (member f)) ks key s (0 ∷ suc (suc (keyLetter names k)) ∷ (valueEvents names x ++ es))
+        → Reads names most (gap (member f)) ks key s (0 ∷ suc (suc (keyLetter names k)) ∷ (docEvents names x ++ es))
     member-on (grammar.member name separator one) ks e es r f key =
         key-on name (λ k. structurals refl separator (value-on one ks e es r false k))
 
@@ -174,7 +171,7 @@ module _ (names : List (List ℕ)) (most : ℕ) where
 
   -- a whole text
   pub text-on : {s : List ℕ} {x : Doc} → JsonText most s x → Reads names most (gap (value false)) [] [] s (docEvents names x)
-  unfolding mayEnd docEvents valueEvents
+  unfolding mayEnd docEvents
   text-on (jsonText {x = x} before one behind) =
       laying (append-nil (docEvents names x))
       (spaces before (value-on one [] refl [] (λ key. spaces behind (ends refl)) false []))

@@ -6,3 +6,5 @@ pub mod Numbers
 pub mod Strings
 pub mod Complete
 pub mod Finishes
+pub mod Follows
+pub mod Sound

@@ -9,7 +9,7 @@ use borrow.Author.Tests.{leb-true, le-leb, lt-leb, ltb-true}
 use Rattle.meaning.specs.Answers.{_≤?_, _<?_, if_then_else_}
 use Rattle.meaning.proofs.laws.Answered.{if-true, if-false, and-true, both-true}
 use Rattle.meaning.proofs.laws.Truths.{and-false-right, or-true, by-cases}
-use Rattle.json.specs.Reader.{Next, goes, notJson, Row, on_go_, Mode, Kind, Mark, lookUp}
+use Rattle.json.specs.Reader.{Next, goes, notJson, Row, from_to_go_, on_go_, Mode, Kind, Mark, lookUp}
 
 -- ---- where a byte is found
 
@@ -100,7 +100,11 @@ pub data Each (P : ℕ → Next → Type 0) : List Row → Type 0 where
   no-row : Each P []
   and-row : {r : Row} {rs : List Row} → ((b : ℕ) → r .low ≤ b → b ≤ r .high → P b (r .next b)) → Each P rs → Each P (r ∷ rs)
 
--- a row of one byte
+-- a row of some bytes, and one of one byte
+pub and-range : {P : ℕ → Next → Type 0} {low high : ℕ} {next : ℕ → Next} {rs : List Row} → ((b : ℕ) → low ≤ b → b ≤ high → P b (next b))
+    → Each P rs → Each P (from low to high go next ∷ rs)
+and-range p each = and-row p each
+
 pub and-on : {P : ℕ → Next → Type 0} {c : ℕ} {next : Next} {rs : List Row} → P c next → Each P rs → Each P (on c go next ∷ rs)
 and-on {P} {c} {next} p each = and-row at-byte each
   where
@@ -120,3 +124,8 @@ looked-up {P} none (and-row {r} {rs} p each) b =
     (λ t. let both = and-true _ _ t in
     subst (P b) (sym (here r rs b t)) (p b (leb-true _ _ (both .0)) (leb-true _ _ (both .1))))
     (λ f. subst (P b) (sym (further r rs b f)) (looked-up none each b))
+
+-- a promise that follows from another
+pub each-also : {P Q : ℕ → Next → Type 0} {rs : List Row} → ((b : ℕ) (next : Next) → P b next → Q b next) → Each P rs → Each Q rs
+each-also also no-row = no-row
+each-also also (and-row {r} p each) = and-row (λ b h l. also b (r .next b) (p b h l)) (each-also also each)
