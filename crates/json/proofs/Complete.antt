@@ -102,12 +102,12 @@ module _ {names : List (List ℕ)} {most : ℕ} {ks : List Kind} {key : List Pie
 -- ---- the tables' rows for containers
 
 module _ {most : ℕ} {ks : List Kind} {d : ℕ} where
-  opens-object : (f : Bool) → length ks ≡ d → d < most
+  pub opens-object : (f : Bool) → length ks ≡ d → d < most
       → step most (gap (value f)) ks 0x7B ≡ goes (gap (member true)) (object ∷ ks) (lays (0 ∷ 2 ∷ []))
   unfolding step rows spaceRows gapRows valueRows opened lookUp if_then_else_
   opens-object f e h = if-true _ _ (lt-ltb (length ks) most (omega arith))
 
-  opens-array : (f : Bool) → length ks ≡ d → d < most
+  pub opens-array : (f : Bool) → length ks ≡ d → d < most
       → step most (gap (value f)) ks 0x5B ≡ goes (gap (value true)) (array ∷ ks) (lays (0 ∷ 3 ∷ []))
   unfolding step rows spaceRows gapRows valueRows opened lookUp if_then_else_
   opens-array f e h = if-true _ _ (lt-ltb (length ks) most (omega arith))

@@ -8,3 +8,4 @@ pub mod Complete
 pub mod Finishes
 pub mod Follows
 pub mod Sound
+pub mod Beginnings

@@ -51,7 +51,7 @@ module _ (ks : List Kind) {m : Mode} {ks′ : List Kind} {mark : Mark} (b : ℕ)
   unfolding clearOf apart pointRow smallRow capitalRow
   past-point taken = in-front (pointRow ks) _ b (clear-point ks) (past-e taken)
 
-  ends-with : (n : InNumber) → numberEnds n ≡ true → lookUp (endRows ks) b ≡ goes m ks′ mark → lookUp (numberRows n ks) b ≡ goes m ks′ mark
+  pub ends-with : (n : InNumber) → numberEnds n ≡ true → lookUp (endRows ks) b ≡ goes m ks′ mark → lookUp (numberRows n ks) b ≡ goes m ks′ mark
   unfolding numberEnds numberRows clearOf apart digitRow pointRow smallRow capitalRow
   ends-with afterMinus t taken = let z : _≡_ {A = ℕ} 0 1 = cc in absurd (omega arith)
   ends-with zeroFirst t taken = past-point taken

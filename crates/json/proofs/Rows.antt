@@ -37,11 +37,11 @@ apart-misses low high r b e h l =
     (λ p. let above : r .high < low = ltb-true _ _ p in above-row r b (omega arith))
     (λ p. let under : high < r .low = ltb-true _ _ (or-true _ _ e p) in below-row r b (omega arith))
 
-here : (r : Row) (rs : List Row) (b : ℕ) → inRow r b ≡ true → lookUp (r ∷ rs) b ≡ r .next b
+pub here : (r : Row) (rs : List Row) (b : ℕ) → inRow r b ≡ true → lookUp (r ∷ rs) b ≡ r .next b
 unfolding lookUp
 here r rs b e = if-true _ _ e
 
-further : (r : Row) (rs : List Row) (b : ℕ) → inRow r b ≡ false → lookUp (r ∷ rs) b ≡ lookUp rs b
+pub further : (r : Row) (rs : List Row) (b : ℕ) → inRow r b ≡ false → lookUp (r ∷ rs) b ≡ lookUp rs b
 unfolding lookUp
 further r rs b e = if-false _ _ e
 

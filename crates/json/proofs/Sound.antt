@@ -22,18 +22,27 @@ use Rattle.json.specs.Reader.{Kind, object, array, Gap, value, member, c
 use Rattle.json.specs.Reader.{step, rows, spaceRows, gapRows, valueRows, emptyArrayRows, emptyObjectRows, afterRows, digitRow, pointRow, smallRow, capitalRow, endRows, numberRows, afterString, heard, escapes, hexRows, stringRows, wordOn, opened, lookUp, mayEnd, numberEnds, counted, keyAfter, laid}
 use Rattle.json.proofs.Rows.{Each, no-row, and-range, and-on, both-each, looked-up, each-also}
 use Rattle.json.proofs.ToTheEnd.{Reads, ends, takes}
+use Rattle.json.proofs.Numbers.{ends-with}
 use Rattle.json.proofs.Strings.{twice-turned}
-use Rattle.json.proofs.Complete.{array-events, object-events}
+use Rattle.json.proofs.Complete.{array-events, object-events, opens-object, opens-array}
 use Rattle.json.proofs.Follows.{Follows, atEnd, oneMore, endsArray, memberMore, endsObject, array-rest, object-rest, NumberRest, restMinus, restZero, restDigits, restPoint, restFraction, restE, restSign, restPower}
 use Rattle.json.proofs.Follows.{StringRest, restPlain, restEscape, restHex4, restHex3, restHex2, restHex1, restTail1, restTail2, restTail3, restE0, restED, restF0, restF4, Completes, byValue, byEndOfArray, byMember, byEndOfObject, byColon, byFollowing, byNumber, byString, byKey, byWord}
 
--- What a byte and where it leads promise: what completes the text from there completes it, after the byte, from here.
-abbrev Kept : List (List ℕ) → ℕ → Mode → List Kind → ℕ → Next → Type 0
+-- a byte is taken where so many containers may be open
+pub record Taken (most : ℕ) (m : Mode) (ks : List Kind) (b : ℕ) : Type 0 where
+  pub mode : Mode
+  pub kinds : List Kind
+  pub mark : Mark
+  pub taken : step most m ks b ≡ goes mode kinds mark
+
+-- What a byte and where it leads promise: what completes the text from there completes it, after the byte, from here. And a byte that
+-- is refused for the containers that are open is taken where one more may be open.
+abbrev pub Kept : List (List ℕ) → ℕ → Mode → List Kind → ℕ → Next → Type 0
 Kept names most m ks b (goes m′ ks′ mark) =
     (key : List Piece) (s es : List ℕ) → Completes names most m′ ks′ (keyAfter mark key) s es
     → Completes names most m ks key (b ∷ s) (laid names mark key ++ es)
 Kept names most m ks b notJson = Unit
-Kept names most m ks b tooDeep = Unit
+Kept names most m ks b tooDeep = (more : ℕ) → length ks < more → Taken more m ks b
 
 -- ---- white space
 
@@ -77,12 +86,19 @@ completing {names} {most} {m} {ks} {key} {s} same c = subst (λ (l : List ℕ). 
 
 -- a row that opens a container keeps its promise if it does so where a container more may be open
 opened-kept : (names : List (List ℕ)) (most : ℕ) (m : Mode) (ks : List Kind) (b : ℕ) (next : Next)
-    → (length ks < most → Kept names most m ks b next) → Kept names most m ks b (opened most ks next)
+    → ((more : ℕ) → length ks < more → Taken more m ks b) → (length ks < most → Kept names most m ks b next)
+    → Kept names most m ks b (opened most ks next)
 unfolding opened
-opened-kept names most m ks b next kept =
+opened-kept names most m ks b next deeper kept =
     by-cases (length ks <? most)
     (λ t. subst (Kept names most m ks b) (sym (if-true next tooDeep t)) (kept (ltb-true _ _ t)))
-    (λ t. subst (Kept names most m ks b) (sym (if-false next tooDeep t)) tt)
+    (λ t. subst (Kept names most m ks b) (sym (if-false next tooDeep t)) deeper)
+
+object-taken : (f : Bool) (ks : List Kind) (more : ℕ) → length ks < more → Taken more (gap (value f)) ks 0x7B
+object-taken f ks more h = record { mode = _; kinds = _; mark = _; taken = opens-object f refl h }
+
+array-taken : (f : Bool) (ks : List Kind) (more : ℕ) → length ks < more → Taken more (gap (value f)) ks 0x5B
+array-taken f ks more h = record { mode = _; kinds = _; mark = _; taken = opens-array f refl h }
 
 -- a number from its first byte on
 from-minus : {s t : List ℕ} → NumberRest afterMinus s t → Number (0x2D ∷ s) t
@@ -200,8 +216,8 @@ module _ (names : List (List ℕ)) (most : ℕ) where
       (and-on (λ key s es c. word-first (λ t w. aTrue (grammar.wordOn is w)) c)
       (and-on (λ key s es c. word-first (λ t w. aFalse (grammar.wordOn is w)) c)
       (and-on (λ key s es c. word-first (λ t w. aNull (grammar.wordOn is w)) c)
-      (and-on (opened-kept names most (gap (value f)) ks 0x7B _ (λ h key s es c. object-first h c))
-      (and-on (opened-kept names most (gap (value f)) ks 0x5B _ (λ h key s es c. array-first h c)) no-row))))))))
+      (and-on (opened-kept names most (gap (value f)) ks 0x7B _ (object-taken f ks) (λ h key s es c. object-first h c))
+      (and-on (opened-kept names most (gap (value f)) ks 0x5B _ (array-taken f ks) (λ h key s es c. array-first h c)) no-row))))))))
 
   gap-kept : (g : Gap) (ks : List Kind) → Each (Kept names most (gap g) ks) (gapRows most g ks)
   unfolding gapRows keyAfter laid
@@ -277,12 +293,18 @@ module _ {b : ℕ} {s t : List ℕ} (one : grammar.E (b ∷ s) s) where
   e-fraction : NumberRest afterE s t → NumberRest fraction (b ∷ s) t
   e-fraction (restE signed some) = restFraction noDigit (present (exp one signed some))
 
+number-taken : {most : ℕ} {ks : List Kind} {b : ℕ} (n : InNumber) → numberEnds n ≡ true → Taken most (gap after) ks b
+    → Taken most (number n) ks b
+unfolding step rows gapRows endRows
+number-taken {ks = ks} {b} n t one =
+    record { mode = one .mode; kinds = one .kinds; mark = one .mark; taken = ends-with ks b n t (one .taken) }
+
 module _ (names : List (List ℕ)) (most : ℕ) where
   end-also : (n : InNumber) (ks : List Kind) → numberEnds n ≡ true → (b : ℕ) (next : Next) → Kept names most (gap after) ks b next
       → Kept names most (number n) ks b next
   end-also n ks t b (goes m′ ks′ mark) kept = λ key s es c. number-end n t (kept key s es c)
   end-also n ks t b notJson kept = tt
-  end-also n ks t b tooDeep kept = tt
+  end-also n ks t b tooDeep kept = λ more h. number-taken n t (kept more h)
 
   end-kept : (n : InNumber) (ks : List Kind) → numberEnds n ≡ true → Each (Kept names most (number n) ks) (endRows ks)
   unfolding endRows
@@ -454,7 +476,7 @@ module _ (names : List (List ℕ)) (most : ℕ) where
   rows-kept (string w i) ks = string-kept names most w ks i
   rows-kept (word c cs) ks = and-on (λ key s es rest. word-rest cs rest) no-row
 
-  step-kept : (m : Mode) (ks : List Kind) (b : ℕ) → Kept names most m ks b (step most m ks b)
+  pub step-kept : (m : Mode) (ks : List Kind) (b : ℕ) → Kept names most m ks b (step most m ks b)
   unfolding step
   step-kept m ks b = looked-up (λ c. tt) (rows-kept m ks) b
 
