@@ -116,28 +116,28 @@ both-more {most} {most′} {ks} h (bothOpen m k mark p q) e =
 -- ---- from one state to another
 
 pub data Leads (most : ℕ) : Mode → List Kind → List ℕ → Mode → List Kind → Type 0 where
-  none : {m : Mode} {ks : List Kind} → Leads most m ks [] m ks
-  more : {m m′ m″ : Mode} {ks ks′ ks″ : List Kind} {mark : Mark} {b : ℕ} {s : List ℕ} → step most m ks b ≡ goes m′ ks′ mark
+  noByte : {m : Mode} {ks : List Kind} → Leads most m ks [] m ks
+  byByte : {m m′ m″ : Mode} {ks ks′ ks″ : List Kind} {mark : Mark} {b : ℕ} {s : List ℕ} → step most m ks b ≡ goes m′ ks′ mark
       → Leads most m′ ks′ s m″ ks″ → Leads most m ks (b ∷ s) m″ ks″
 
 leads-higher : {most most′ : ℕ} {m m′ : Mode} {ks ks′ : List Kind} {s : List ℕ} → most ≤ most′ → Leads most m ks s m′ ks′ → Leads most′ m ks s m′ ks′
-leads-higher h none = none
-leads-higher {most} {most′} {m} {ks = ks} h (more {b = b} e rest) =
-    more (both-more h (step-both most most′ ks m b) e) (leads-higher h rest)
+leads-higher h noByte = noByte
+leads-higher {most} {most′} {m} {ks = ks} h (byByte {b = b} e rest) =
+    byByte (both-more h (step-both most most′ ks m b) e) (leads-higher h rest)
 
 -- a byte more
 leads-on : {most : ℕ} {m m′ m″ : Mode} {ks ks′ ks″ : List Kind} {mark : Mark} {s : List ℕ} (b : ℕ) → Leads most m ks s m′ ks′
     → step most m′ ks′ b ≡ goes m″ ks″ mark → Leads most m ks (s ++ (b ∷ [])) m″ ks″
-leads-on b none e = more e none
-leads-on b (more d rest) e = more d (leads-on b rest e)
+leads-on b noByte e = byByte e noByte
+leads-on b (byByte d rest) e = byByte d (leads-on b rest e)
 
 -- what has been read, and what finishes the text from there
 read-finishes : {names : List (List ℕ)} {most : ℕ} {m m′ : Mode} {ks ks′ : List Kind} {s : List ℕ} (key : List Piece)
     → Leads most m ks s m′ ks′ → (rest : List ℕ) × (events : List ℕ) × Reads names most m ks key (s ++ rest) events
-read-finishes {m = m} {ks = ks} key none =
+read-finishes {m = m} {ks = ks} key noByte =
     let end = finishes m ks key in
     (end .rest, end .events, end .reads)
-read-finishes key (more {mark = mark} e rest) =
+read-finishes key (byByte {mark = mark} e rest) =
     let end = read-finishes (keyAfter mark key) rest in
     (end .0, _, takes e (end .2))
 
@@ -154,8 +154,8 @@ from-state {names} {most} {key = key} {s} {es} p q r = subst₂ (λ (x : Mode) (
 
 along : {names : List (List ℕ)} {most most′ : ℕ} {m m′ : Mode} {ks ks′ : List Kind} {key : List Piece} {es : List ℕ} (s rest : List ℕ)
     → Leads most m ks s m′ ks′ → Reads names most′ m ks key (s ++ rest) es → Onward names most′ m′ ks′ rest
-along [] rest none r = record { key = _; events = _; reads = r }
-along {names} {most} {most′} {m} {ks = ks} {key} (b ∷ s) rest (more {m′ = a} {ks′ = k} e leads) (takes {m′ = a′} {ks′ = k′} {mark = mark} {es = es} d r) =
+along [] rest noByte r = record { key = _; events = _; reads = r }
+along {names} {most} {most′} {m} {ks = ks} {key} (b ∷ s) rest (byByte {m′ = a} {ks′ = k} e leads) (takes {m′ = a′} {ks′ = k′} {mark = mark} {es = es} d r) =
     let same = both-go (step-both most most′ ks m b) e d in
     let sameMode : a′ ≡ a = cc in
     let sameKinds : k′ ≡ k = cc in

@@ -9,3 +9,5 @@ pub mod Finishes
 pub mod Follows
 pub mod Sound
 pub mod Beginnings
+pub mod Judging
+pub mod OneJudgement

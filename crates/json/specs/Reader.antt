@@ -8,6 +8,7 @@ use mathlib.Core.List.{List, [], _∷_, _++_, reverse}
 use lib.ListN.{length}
 use Rattle.meaning.specs.Answers.{Answer, given, refused, _giving_, _≤?_, _<?_, if_then_else_}
 use Rattle.meaning.specs.JsonKeys.{Piece, byte, unit, keyLetter}
+use Rattle.meaning.specs.JsonImport.{mostOpen}
 
 infix 80 from_to_go_
 infix 80 on_go_
@@ -309,3 +310,7 @@ readFrom names most place σ (b ∷ s) =
 -- before the first byte
 unfoldable pub start : State
 start = record { mode = gap (value false); kinds = []; key = [] }
+
+-- what it answers of a whole text
+unfoldable pub readText : List (List ℕ) → List ℕ → Answer (List ℕ)
+readText names text = readFrom names mostOpen 0 start text
