@@ -1,0 +1,2 @@
+-- The events of JSON texts.
+pub mod TextEvents
