@@ -17,10 +17,10 @@ use Rattle.meaning.specs.JsonGrammar.{Is, is, Space, Word, wordEnd, Doc, isStri
 use Rattle.meaning.specs.JsonGrammar as grammar
 use Rattle.meaning.specs.JsonImport.{valueThen, membersHedge, elementsHedge, docEvents}
 use Rattle.meaning.proofs.laws.Answered.{if-true}
-use Rattle.json.specs.Reader.{Kind, object, array, value, member, colon, after, Mode, gap, word, lays, goes}
-use Rattle.json.specs.Reader.{step, rows, spaceRows, gapRows, valueRows, emptyArrayRows, emptyObjectRows, afterRows, wordOn, opened, lookUp, mayEnd, keyAfter, laid}
+use Rattle.json.specs.Reader.{Kind, object, array, value, member, colon, after, gap, word, topOf, state, goes}
+use Rattle.json.specs.Reader.{step, moveAt, perform, outer, opened, rows, spaceRows, gapRows, valueRows, emptyArrayRows, emptyObjectRows, afterRows, wordOn, lookUp, mayEnd}
 use Rattle.json.proofs.Rows.{found, nth, clear}
-use Rattle.json.proofs.ToTheEnd.{Reads, ends, takes, laying}
+use Rattle.json.proofs.ToTheEnd.{Reads, ends, takes, by-move, laying}
 use Rattle.json.proofs.Spaces.{spaces, structurals}
 use Rattle.json.proofs.Numbers.{number-on}
 use Rattle.json.proofs.Strings.{string-on, key-on}
@@ -79,37 +79,37 @@ module _ (names : List (List ℕ)) where
 
 module _ {names : List (List ℕ)} {most : ℕ} {ks : List Kind} {key : List Piece} where
   word-on : {cs s t es : List ℕ} → Word cs s t → Reads names most (gap after) ks key t es → Reads names most (wordOn cs) ks key s es
-  unfolding step rows wordOn keyAfter laid nth clear
+  unfolding moveAt perform rows wordOn nth clear
   word-on wordEnd r = r
   word-on (grammar.wordOn {c} {cs} is more) r =
-      takes (found 0 (rows most (word c cs) ks) c refl (le-refl c) (le-refl c)) (word-on more r)
+      by-move (found 0 (rows (word c cs) (topOf ks)) c refl (le-refl c) (le-refl c)) refl (word-on more r)
 
   false-on : {f : Bool} {s t es : List ℕ} → Word grammar.falseWord s t → Reads names most (gap after) ks key t es
       → Reads names most (gap (value f)) ks key s (7 ∷ es)
-  unfolding step rows spaceRows gapRows valueRows wordOn lookUp if_then_else_ keyAfter laid
+  unfolding step moveAt perform rows spaceRows gapRows valueRows wordOn lookUp if_then_else_
   false-on (grammar.wordOn is more) r = takes refl (word-on more r)
 
   null-on : {f : Bool} {s t es : List ℕ} → Word grammar.nullWord s t → Reads names most (gap after) ks key t es
       → Reads names most (gap (value f)) ks key s (8 ∷ es)
-  unfolding step rows spaceRows gapRows valueRows wordOn lookUp if_then_else_ keyAfter laid
+  unfolding step moveAt perform rows spaceRows gapRows valueRows wordOn lookUp if_then_else_
   null-on (grammar.wordOn is more) r = takes refl (word-on more r)
 
   true-on : {f : Bool} {s t es : List ℕ} → Word grammar.trueWord s t → Reads names most (gap after) ks key t es
       → Reads names most (gap (value f)) ks key s (6 ∷ es)
-  unfolding step rows spaceRows gapRows valueRows wordOn lookUp if_then_else_ keyAfter laid
+  unfolding step moveAt perform rows spaceRows gapRows valueRows wordOn lookUp if_then_else_
   true-on (grammar.wordOn is more) r = takes refl (word-on more r)
 
 -- ---- the tables' rows for containers
 
-module _ {most : ℕ} {ks : List Kind} {d : ℕ} where
+module _ (names : List (List ℕ)) {most : ℕ} {ks : List Kind} {key : List Piece} {d : ℕ} where
   pub opens-object : (f : Bool) → length ks ≡ d → d < most
-      → step most (gap (value f)) ks 0x7B ≡ goes (gap (member true)) (object ∷ ks) (lays (0 ∷ 2 ∷ []))
-  unfolding step rows spaceRows gapRows valueRows opened lookUp if_then_else_
+      → step names most (state (gap (value f)) ks key) 0x7B ≡ goes (gap (member true)) (object ∷ ks) key (0 ∷ 2 ∷ [])
+  unfolding step moveAt perform rows spaceRows gapRows valueRows opened lookUp if_then_else_
   opens-object f e h = if-true _ _ (lt-ltb (length ks) most (omega arith))
 
   pub opens-array : (f : Bool) → length ks ≡ d → d < most
-      → step most (gap (value f)) ks 0x5B ≡ goes (gap (value true)) (array ∷ ks) (lays (0 ∷ 3 ∷ []))
-  unfolding step rows spaceRows gapRows valueRows opened lookUp if_then_else_
+      → step names most (state (gap (value f)) ks key) 0x5B ≡ goes (gap (value true)) (array ∷ ks) key (0 ∷ 3 ∷ [])
+  unfolding step moveAt perform rows spaceRows gapRows valueRows opened lookUp if_then_else_
   opens-array f e h = if-true _ _ (lt-ltb (length ks) most (omega arith))
 
 -- ---- values
@@ -121,30 +121,30 @@ module _ (names : List (List ℕ)) (most : ℕ) where
 
   -- the end of an array, and of an object after a member
   ends-array : {ks : List Kind} {s t es : List ℕ} → grammar.EndArray s t → Afterwards ks t es → Afterwards (array ∷ ks) s (1 ∷ es)
-  unfolding step rows spaceRows gapRows afterRows lookUp if_then_else_ keyAfter laid
+  unfolding step moveAt perform topOf outer rows spaceRows gapRows afterRows lookUp if_then_else_
   ends-array end r key = structurals refl end (r key)
 
   ends-object : {ks : List Kind} {s t es : List ℕ} → grammar.EndObject s t → Afterwards ks t es → Afterwards (object ∷ ks) s (1 ∷ 1 ∷ es)
-  unfolding step rows spaceRows gapRows afterRows lookUp if_then_else_ keyAfter laid
+  unfolding step moveAt perform topOf outer rows spaceRows gapRows afterRows lookUp if_then_else_
   ends-object end r key = structurals refl end (r key)
 
   mutual
-    unfolding step rows spaceRows gapRows valueRows emptyArrayRows emptyObjectRows afterRows wordOn lookUp if_then_else_ keyAfter laid valueThen eventsOf docEvents
+    unfolding step moveAt perform topOf outer rows spaceRows gapRows valueRows emptyArrayRows emptyObjectRows afterRows lookUp if_then_else_ valueThen eventsOf docEvents
 
     value-on : {d : ℕ} {s t : List ℕ} {x : Doc} → Value most d s t x → (ks : List Kind) → length ks ≡ d → (es : List ℕ)
         → Afterwards ks t es → (f : Bool) (key : List Piece) → Reads names most (gap (value f)) ks key s (docEvents names x ++ es)
     value-on (aFalse one) ks e es r f key = false-on one (r key)
     value-on (aNull one) ks e es r f key = null-on one (r key)
     value-on (aTrue one) ks e es r f key = true-on one (r key)
-    value-on (emptyObject h begin end) ks e es r f key = structurals (opens-object f e h) begin (structurals refl end (r key))
+    value-on (emptyObject h begin end) ks e es r f key = structurals (opens-object names f e h) begin (structurals refl end (r key))
     value-on (anObject {key = name} {x = x} {xs = xs} h begin first more end) ks e es r f key =
         laying (sym (object-events names name x xs es))
-        (structurals (opens-object f e h) begin
+        (structurals (opens-object names f e h) begin
         (member-on first (object ∷ ks) (ap suc e) _ (λ k. more-members-on more ks (ap suc e) _ (ends-object end r) k) true key))
-    value-on (emptyArray h begin end) ks e es r f key = structurals (opens-array f e h) begin (structurals refl end (r key))
+    value-on (emptyArray h begin end) ks e es r f key = structurals (opens-array names f e h) begin (structurals refl end (r key))
     value-on (anArray {x = x} {xs = xs} h begin first more end) ks e es r f key =
         laying (sym (array-events names x xs es))
-        (structurals (opens-array f e h) begin
+        (structurals (opens-array names f e h) begin
         (value-on first (array ∷ ks) (ap suc e) _ (λ k. more-values-on more ks (ap suc e) _ (ends-array end r) k) true key))
     value-on (aNumber one) ks e es r f key = number-on one (r key)
     value-on (aString one) ks e es r f key = string-on one r

@@ -18,31 +18,34 @@ use Rattle.meaning.specs.JsonGrammar as grammar
 use Rattle.meaning.specs.JsonImport.{valueThen, docEvents}
 use Rattle.meaning.proofs.laws.Answered.{if-true, if-false}
 use Rattle.meaning.proofs.laws.Truths.{by-cases}
-use Rattle.json.specs.Reader.{Kind, object, array, Gap, value, member, colon, after, InNumber, afterMinus, zeroFirst, digits, afterPoint, fraction, afterE, afterSign, power, InString, plain, escape, hex4, hex3, hex2, hex1, tail1, tail2, tail3, afterE0, afterED, afterF0, afterF4, Whose, ofKey, ofValue, Mode, gap, number, string, word, Mark, Next, goes, notJson, tooDeep, Row}
-use Rattle.json.specs.Reader.{step, rows, spaceRows, gapRows, valueRows, emptyArrayRows, emptyObjectRows, afterRows, digitRow, pointRow, smallRow, capitalRow, endRows, numberRows, afterString, heard, escapes, hexRows, stringRows, wordOn, opened, lookUp, mayEnd, numberEnds, counted, keyAfter, laid}
+use Rattle.json.specs.Reader.{Kind, object, array, Gap, value, member, colon, after, InNumber, afterMinus, zeroFirst, digits, afterPoint, fraction, afterE, afterSign, power, InString, plain, escape, hex4, hex3, hex2, hex1, tail1, tail2, tail3, afterE0, afterED, afterF0, afterF4, Whose, ofKey, ofValue, Mode, gap, number, string, word, topOf, Move, state, Next, goes, notJson, tooDeep}
+use Rattle.json.specs.Reader.{step, moveAt, perform, outer, opened, counted, rows, spaceRows, gapRows, valueRows, emptyArrayRows, emptyObjectRows, afterRows, digitRow, pointRow, smallRow, capitalRow, endRows, numberRows, afterString, hexRows, stringRows, wordOn, mayEnd, numberEnds}
 use Rattle.json.proofs.Rows.{Each, no-row, and-range, and-on, both-each, looked-up, each-also}
 use Rattle.json.proofs.ToTheEnd.{Reads, ends, takes}
-use Rattle.json.proofs.Numbers.{ends-with}
+use Rattle.json.proofs.Numbers.{ends-as-after, taken-somewhere}
 use Rattle.json.proofs.Strings.{twice-turned}
 use Rattle.json.proofs.Complete.{array-events, object-events, opens-object, opens-array}
 use Rattle.json.proofs.Follows.{Follows, atEnd, oneMore, endsArray, memberMore, endsObject, array-rest, object-rest, NumberRest, restMinus, restZero, restDigits, restPoint, restFraction, restE, restSign, restPower}
 use Rattle.json.proofs.Follows.{StringRest, restPlain, restEscape, restHex4, restHex3, restHex2, restHex1, restTail1, restTail2, restTail3, restE0, restED, restF0, restF4, Completes, byValue, byEndOfArray, byMember, byEndOfObject, byColon, byFollowing, byNumber, byString, byKey, byWord}
 
 -- a byte is taken where so many containers may be open
-pub record Taken (most : ℕ) (m : Mode) (ks : List Kind) (b : ℕ) : Type 0 where
+pub record Taken (names : List (List ℕ)) (most : ℕ) (m : Mode) (ks : List Kind) (key : List Piece) (b : ℕ) : Type 0 where
   pub mode : Mode
   pub kinds : List Kind
-  pub mark : Mark
-  pub taken : step most m ks b ≡ goes mode kinds mark
+  pub pieces : List Piece
+  pub events : List ℕ
+  pub taken : step names most (state m ks key) b ≡ goes mode kinds pieces events
 
--- What a byte and where it leads promise: what completes the text from there completes it, after the byte, from here. And a byte that
+-- What a byte promises by where it leads: what completes the text from there completes it, after the byte, from here. And a byte that
 -- is refused for the containers that are open is taken where one more may be open.
-abbrev pub Kept : List (List ℕ) → ℕ → Mode → List Kind → ℕ → Next → Type 0
-Kept names most m ks b (goes m′ ks′ mark) =
-    (key : List Piece) (s es : List ℕ) → Completes names most m′ ks′ (keyAfter mark key) s es
-    → Completes names most m ks key (b ∷ s) (laid names mark key ++ es)
-Kept names most m ks b notJson = Unit
-Kept names most m ks b tooDeep = (more : ℕ) → length ks < more → Taken more m ks b
+abbrev pub KeptBy : List (List ℕ) → ℕ → Mode → List Kind → List Piece → ℕ → Next → Type 0
+KeptBy names most m ks key b (goes m′ ks′ key′ fs) =
+    (s es : List ℕ) → Completes names most m′ ks′ key′ s es → Completes names most m ks key (b ∷ s) (fs ++ es)
+KeptBy names most m ks key b notJson = Unit
+KeptBy names most m ks key b tooDeep = (more : ℕ) → length ks < more → Taken names more m ks key b
+
+abbrev pub Kept : List (List ℕ) → ℕ → Mode → List Kind → ℕ → Move → Type 0
+Kept names most m ks b move = (key : List Piece) → KeptBy names most m ks key b (perform names most ks key b move)
 
 -- ---- white space
 
@@ -70,8 +73,8 @@ module _ {names : List (List ℕ)} {most : ℕ} where
   before-gap b (byColon separator one follows) = byColon (before-structural b separator) one follows
   before-gap b (byFollowing follows) = byFollowing (before-following b follows)
 
-space-kept : (names : List (List ℕ)) (most : ℕ) (g : Gap) (ks : List Kind) → Each (Kept names most (gap g) ks) (spaceRows (gap g) ks)
-unfolding spaceRows keyAfter laid
+space-kept : (names : List (List ℕ)) (most : ℕ) (g : Gap) (ks : List Kind) → Each (Kept names most (gap g) ks) (spaceRows (gap g))
+unfolding spaceRows perform
 space-kept names most g ks =
     and-on (λ key s es c. before-gap space c)
     (and-on (λ key s es c. before-gap tab c)
@@ -84,21 +87,23 @@ completing : {names : List (List ℕ)} {most : ℕ} {m : Mode} {ks : List Kind} 
     → Completes names most m ks key s es → Completes names most m ks key s fs
 completing {names} {most} {m} {ks} {key} {s} same c = subst (λ (l : List ℕ). Completes names most m ks key s l) same c
 
--- a row that opens a container keeps its promise if it does so where a container more may be open
-opened-kept : (names : List (List ℕ)) (most : ℕ) (m : Mode) (ks : List Kind) (b : ℕ) (next : Next)
-    → ((more : ℕ) → length ks < more → Taken more m ks b) → (length ks < most → Kept names most m ks b next)
-    → Kept names most m ks b (opened most ks next)
+-- a byte that opens a container keeps its promise if it does so where a container more may be open
+opened-kept : (names : List (List ℕ)) (most : ℕ) (m : Mode) (ks : List Kind) (key : List Piece) (b : ℕ) (next : Next)
+    → ((more : ℕ) → length ks < more → Taken names more m ks key b) → (length ks < most → KeptBy names most m ks key b next)
+    → KeptBy names most m ks key b (opened most ks next)
 unfolding opened
-opened-kept names most m ks b next deeper kept =
+opened-kept names most m ks key b next deeper kept =
     by-cases (length ks <? most)
-    (λ t. subst (Kept names most m ks b) (sym (if-true next tooDeep t)) (kept (ltb-true _ _ t)))
-    (λ t. subst (Kept names most m ks b) (sym (if-false next tooDeep t)) deeper)
+    (λ t. subst (KeptBy names most m ks key b) (sym (if-true next tooDeep t)) (kept (ltb-true _ _ t)))
+    (λ t. subst (KeptBy names most m ks key b) (sym (if-false next tooDeep t)) deeper)
 
-object-taken : (f : Bool) (ks : List Kind) (more : ℕ) → length ks < more → Taken more (gap (value f)) ks 0x7B
-object-taken f ks more h = record { mode = _; kinds = _; mark = _; taken = opens-object f refl h }
+object-taken : (names : List (List ℕ)) (f : Bool) (ks : List Kind) (key : List Piece) (more : ℕ) → length ks < more
+    → Taken names more (gap (value f)) ks key 0x7B
+object-taken names f ks key more h = record { mode = _; kinds = _; pieces = _; events = _; taken = opens-object names f refl h }
 
-array-taken : (f : Bool) (ks : List Kind) (more : ℕ) → length ks < more → Taken more (gap (value f)) ks 0x5B
-array-taken f ks more h = record { mode = _; kinds = _; mark = _; taken = opens-array f refl h }
+array-taken : (names : List (List ℕ)) (f : Bool) (ks : List Kind) (key : List Piece) (more : ℕ) → length ks < more
+    → Taken names more (gap (value f)) ks key 0x5B
+array-taken names f ks key more h = record { mode = _; kinds = _; pieces = _; events = _; taken = opens-array names f refl h }
 
 -- a number from its first byte on
 from-minus : {s t : List ℕ} → NumberRest afterMinus s t → Number (0x2D ∷ s) t
@@ -186,28 +191,28 @@ module _ {names : List (List ℕ)} {most : ℕ} {ks : List Kind} {key : List Pie
   colon-first (byValue sp one follows) = byColon (at-once sp) one follows
 
 module _ (names : List (List ℕ)) (most : ℕ) where
-  after-kept : (ks : List Kind) → Each (Kept names most (gap after) ks) (afterRows ks)
-  unfolding afterRows keyAfter laid
+  after-kept : (ks : List Kind) → Each (Kept names most (gap after) ks) (afterRows (topOf ks))
+  unfolding afterRows topOf perform outer
   after-kept [] = no-row
   after-kept (object ∷ ks) = and-on (λ key s es c. another-member c) (and-on (λ key s es c. ends-object c) no-row)
   after-kept (array ∷ ks) = and-on (λ key s es c. another-value c) (and-on (λ key s es c. ends-array c) no-row)
 
-  empty-array-kept : (f : Bool) (ks : List Kind) → Each (Kept names most (gap (value f)) ks) (emptyArrayRows f ks)
-  unfolding emptyArrayRows keyAfter laid
+  empty-array-kept : (f : Bool) (ks : List Kind) → Each (Kept names most (gap (value f)) ks) (emptyArrayRows f (topOf ks))
+  unfolding emptyArrayRows topOf perform outer
   empty-array-kept false ks = no-row
   empty-array-kept true [] = no-row
   empty-array-kept true (object ∷ ks) = no-row
   empty-array-kept true (array ∷ ks) = and-on (λ key s es c. ends-empty-array c) no-row
 
-  empty-object-kept : (f : Bool) (ks : List Kind) → Each (Kept names most (gap (member f)) ks) (emptyObjectRows f ks)
-  unfolding emptyObjectRows keyAfter laid
+  empty-object-kept : (f : Bool) (ks : List Kind) → Each (Kept names most (gap (member f)) ks) (emptyObjectRows f (topOf ks))
+  unfolding emptyObjectRows topOf perform outer
   empty-object-kept false ks = no-row
   empty-object-kept true [] = no-row
   empty-object-kept true (object ∷ ks) = and-on (λ key s es c. ends-empty-object c) no-row
   empty-object-kept true (array ∷ ks) = no-row
 
-  value-kept : (f : Bool) (ks : List Kind) → Each (Kept names most (gap (value f)) ks) (valueRows most ks)
-  unfolding valueRows keyAfter laid docEvents valueThen eventsOf
+  value-kept : (f : Bool) (ks : List Kind) → Each (Kept names most (gap (value f)) ks) valueRows
+  unfolding valueRows perform docEvents valueThen eventsOf
   value-kept f ks =
       and-range (λ b h l key s es c. number-first (λ t. from-digit h l) c)
       (and-on (λ key s es c. number-first (λ t. from-zero) c)
@@ -216,11 +221,12 @@ module _ (names : List (List ℕ)) (most : ℕ) where
       (and-on (λ key s es c. word-first (λ t w. aTrue (grammar.wordOn is w)) c)
       (and-on (λ key s es c. word-first (λ t w. aFalse (grammar.wordOn is w)) c)
       (and-on (λ key s es c. word-first (λ t w. aNull (grammar.wordOn is w)) c)
-      (and-on (opened-kept names most (gap (value f)) ks 0x7B _ (object-taken f ks) (λ h key s es c. object-first h c))
-      (and-on (opened-kept names most (gap (value f)) ks 0x5B _ (array-taken f ks) (λ h key s es c. array-first h c)) no-row))))))))
+      (and-on (λ key. opened-kept names most (gap (value f)) ks key 0x7B _ (object-taken names f ks key) (λ h s es c. object-first h c))
+      (and-on (λ key. opened-kept names most (gap (value f)) ks key 0x5B _ (array-taken names f ks key) (λ h s es c. array-first h c))
+      no-row))))))))
 
-  gap-kept : (g : Gap) (ks : List Kind) → Each (Kept names most (gap g) ks) (gapRows most g ks)
-  unfolding gapRows keyAfter laid
+  gap-kept : (g : Gap) (ks : List Kind) → Each (Kept names most (gap g) ks) (gapRows g (topOf ks))
+  unfolding gapRows perform
   gap-kept (value f) ks = both-each (value-kept f ks) (empty-array-kept f ks)
   gap-kept (member f) ks = and-on (λ key s es c. key-first c) (empty-object-kept f ks)
   gap-kept colon ks = and-on (λ key s es c. colon-first c) no-row
@@ -293,25 +299,36 @@ module _ {b : ℕ} {s t : List ℕ} (one : grammar.E (b ∷ s) s) where
   e-fraction : NumberRest afterE s t → NumberRest fraction (b ∷ s) t
   e-fraction (restE signed some) = restFraction noDigit (present (exp one signed some))
 
-number-taken : {most : ℕ} {ks : List Kind} {b : ℕ} (n : InNumber) → numberEnds n ≡ true → Taken most (gap after) ks b
-    → Taken most (number n) ks b
-unfolding step rows gapRows endRows
-number-taken {ks = ks} {b} n t one =
-    record { mode = one .mode; kinds = one .kinds; mark = one .mark; taken = ends-with ks b n t (one .taken) }
+-- what is taken after a value is taken where a number may end
+number-taken : {names : List (List ℕ)} {most : ℕ} {ks : List Kind} {key : List Piece} {b : ℕ} (n : InNumber) → numberEnds n ≡ true
+    → Taken names most (gap after) ks key b → Taken names most (number n) ks key b
+unfolding step
+number-taken {names} {most} {ks} {key} {b} n t one =
+    record {
+      mode = one .mode;
+      kinds = one .kinds;
+      pieces = one .pieces;
+      events = one .events;
+      taken =
+          ap (perform names most ks key b) (ends-as-after n ks b t (taken-somewhere names most ks key b _ (one .taken)))
+          ∙ one .taken;
+    }
 
 module _ (names : List (List ℕ)) (most : ℕ) where
-  end-also : (n : InNumber) (ks : List Kind) → numberEnds n ≡ true → (b : ℕ) (next : Next) → Kept names most (gap after) ks b next
-      → Kept names most (number n) ks b next
-  end-also n ks t b (goes m′ ks′ mark) kept = λ key s es c. number-end n t (kept key s es c)
-  end-also n ks t b notJson kept = tt
-  end-also n ks t b tooDeep kept = λ more h. number-taken n t (kept more h)
+  end-by : (n : InNumber) (ks : List Kind) (key : List Piece) → numberEnds n ≡ true → (b : ℕ) (next : Next)
+      → KeptBy names most (gap after) ks key b next → KeptBy names most (number n) ks key b next
+  end-by n ks key t b (goes m′ ks′ key′ fs) kept = λ s es c. number-end n t (kept s es c)
+  end-by n ks key t b notJson kept = tt
+  end-by n ks key t b tooDeep kept = λ more h. number-taken n t (kept more h)
 
-  end-kept : (n : InNumber) (ks : List Kind) → numberEnds n ≡ true → Each (Kept names most (number n) ks) (endRows ks)
+  end-kept : (n : InNumber) (ks : List Kind) → numberEnds n ≡ true → Each (Kept names most (number n) ks) (endRows (topOf ks))
   unfolding endRows
-  end-kept n ks t = each-also (end-also n ks t) (both-each (space-kept names most after ks) (after-kept names most ks))
+  end-kept n ks t =
+      each-also (λ b move kept key. end-by n ks key t b (perform names most ks key b move) (kept key))
+      (both-each (space-kept names most after ks) (after-kept names most ks))
 
-  number-kept : (n : InNumber) (ks : List Kind) → Each (Kept names most (number n) ks) (numberRows n ks)
-  unfolding numberRows digitRow pointRow smallRow capitalRow numberEnds keyAfter laid
+  number-kept : (n : InNumber) (ks : List Kind) → Each (Kept names most (number n) ks) (numberRows n (topOf ks))
+  unfolding numberRows digitRow pointRow smallRow capitalRow numberEnds perform
   number-kept afterMinus ks =
       and-range (λ b h l key s es c. number-lift (λ t. digit-minus h l) c)
       (and-on (λ key s es c. number-lift (λ t. zero-minus) c) no-row)
@@ -396,8 +413,8 @@ from-u {key} {all} {t = t} (restHex4 {v = i} first (restHex3 {v = j} second (res
     (subst (λ (x : ℕ). StringRest plain (unit (16 * (16 * (16 * x + j) + k) + l) ∷ key) u t all) same rest)
 
 -- the mark that ends a string
-quote-kept : (names : List (List ℕ)) (most : ℕ) (w : Whose) (ks : List Kind) → Kept names most (string w plain) ks 0x22 (afterString w ks)
-unfolding afterString keyAfter laid
+quote-kept : (names : List (List ℕ)) (most : ℕ) (w : Whose) (ks : List Kind) → Kept names most (string w plain) ks 0x22 (afterString w)
+unfolding afterString perform
 quote-kept names most ofKey ks = λ key s es c. go c
   where
     go : {key : List Piece} {s es : List ℕ} → Completes names most (gap colon) ks key s es
@@ -412,15 +429,15 @@ quote-kept names most ofValue ks = λ key s es c. go c
 module _ (names : List (List ℕ)) (most : ℕ) (w : Whose) (ks : List Kind) where
   hex-kept : (i j : InString)
       → ((key all : List Piece) (s t u : List ℕ) (v : ℕ) → grammar.HexDigit s t v → StringRest j (counted v key) t u all → StringRest i key s u all)
-      → Each (Kept names most (string w i) ks) (hexRows w j ks)
-  unfolding hexRows keyAfter laid
+      → Each (Kept names most (string w i) ks) (hexRows w j)
+  unfolding hexRows perform
   hex-kept i j rest =
       and-range (λ b h l key s es c. string-lift (λ t all. rest key all (b ∷ s) s t _ (decimal (within h l))) c)
       (and-range (λ b h l key s es c. string-lift (λ t all. rest key all (b ∷ s) s t _ (upper (within h l))) c)
       (and-range (λ b h l key s es c. string-lift (λ t all. rest key all (b ∷ s) s t _ (lower (within h l))) c) no-row))
 
-  string-kept : (i : InString) → Each (Kept names most (string w i) ks) (stringRows w i ks)
-  unfolding stringRows heard escapes keyAfter laid
+  string-kept : (i : InString) → Each (Kept names most (string w i) ks) (stringRows w i)
+  unfolding stringRows perform
   string-kept plain =
       and-range (λ b h l key s es c. string-lift (λ t all. ascii (belowQuote (within h l))) c)
       (and-range (λ b h l key s es c. string-lift (λ t all. ascii (belowEscape (within h l))) c)
@@ -469,16 +486,16 @@ word-rest (c ∷ cs) (byWord rest follows) = byWord (grammar.wordOn is rest) fol
 -- ---- all tables, and a text to its end
 
 module _ (names : List (List ℕ)) (most : ℕ) where
-  rows-kept : (m : Mode) (ks : List Kind) → Each (Kept names most m ks) (rows most m ks)
-  unfolding rows keyAfter laid
+  rows-kept : (m : Mode) (ks : List Kind) → Each (Kept names most m ks) (rows m (topOf ks))
+  unfolding rows perform
   rows-kept (gap g) ks = both-each (space-kept names most g ks) (gap-kept names most g ks)
   rows-kept (number n) ks = number-kept names most n ks
   rows-kept (string w i) ks = string-kept names most w ks i
   rows-kept (word c cs) ks = and-on (λ key s es rest. word-rest cs rest) no-row
 
-  pub step-kept : (m : Mode) (ks : List Kind) (b : ℕ) → Kept names most m ks b (step most m ks b)
-  unfolding step
-  step-kept m ks b = looked-up (λ c. tt) (rows-kept m ks) b
+  pub step-kept : (m : Mode) (ks : List Kind) (key : List Piece) (b : ℕ) → KeptBy names most m ks key b (step names most (state m ks key) b)
+  unfolding step moveAt perform
+  step-kept m ks key b = looked-up {P = Kept names most m ks} (λ c key. tt) (rows-kept m ks) b key
 
   end-completes : (m : Mode) (ks : List Kind) (key : List Piece) → mayEnd m ks ≡ true → Completes names most m ks key [] []
   unfolding mayEnd
@@ -496,7 +513,7 @@ module _ (names : List (List ℕ)) (most : ℕ) where
       → Completes names most m ks key s es
   reads-completes {m} {ks} {key} (ends e) = end-completes m ks key e
   reads-completes {m} {ks} {key} (takes {b = b} {s} {es} e r) =
-      subst (Kept names most m ks b) e (step-kept m ks b) key s es (reads-completes r)
+      subst (KeptBy names most m ks key b) e (step-kept m ks key b) s es (reads-completes r)
 
 -- a whole text, and what it holds
 pub record Holds (names : List (List ℕ)) (most : ℕ) (s es : List ℕ) : Type 0 where

@@ -42,228 +42,242 @@ pub data Mode : Type 0 where
   string : Whose → InString → Mode
   word : ℕ → List ℕ → Mode
 
--- ---- what a byte does besides
+-- ---- what a byte does
 
--- It lays down events; it begins a string, before which it may lay some; it is a piece of the string, or a hex digit of the last one;
--- it ends a key, and so opens the member's tree and lays down its letter.
-pub data Mark : Type 0 where
-  lays begins : List ℕ → Mark
-  hears : Piece → Mark
-  counts : ℕ → Mark
-  keyEnds : Mark
+-- the innermost open container, if there is one
+pub data Top : Type 0 where
+  noneOpen inObject inArray : Top
 
--- the key's pieces, the last one first
-unfoldable pub counted : ℕ → List Piece → List Piece
-counted v [] = []
-counted v (byte b ∷ ps) = byte b ∷ ps
-counted v (unit n ∷ ps) = unit (16 * n + v) ∷ ps
+unfoldable pub topOf : List Kind → Top
+topOf [] = noneOpen
+topOf (object ∷ ks) = inObject
+topOf (array ∷ ks) = inArray
 
-unfoldable pub keyAfter : Mark → List Piece → List Piece
-keyAfter (lays es) key = key
-keyAfter (begins es) key = []
-keyAfter (hears p) key = p ∷ key
-keyAfter (counts v) key = counted v key
-keyAfter keyEnds key = key
-
-unfoldable pub laid : List (List ℕ) → Mark → List Piece → List ℕ
-laid names (lays es) key = es
-laid names (begins es) key = es
-laid names (hears p) key = []
-laid names (counts v) key = []
-laid names keyEnds key = 0 ∷ suc (suc (keyLetter names (reverse key))) ∷ []
+-- With a byte, no text can go on; or it leads on and lays down events; or it begins a string, and may lay down its letter; it is a piece
+-- of one, as it stands or by an escape, or a hex digit, so much above what it counts; it ends a key; it opens a container, or closes one
+-- and lays down events.
+pub data Move : Type 0 where
+  stops : Move
+  leads : Mode → List ℕ → Move
+  begins : Whose → List ℕ → Move
+  hears : Whose → InString → Move
+  says : Whose → InString → Piece → Move
+  counts : Whose → InString → ℕ → Move
+  endsKey : Move
+  opens : Kind → Move
+  closes : List ℕ → Move
 
 -- ---- the tables
 
--- where a byte leads: on, or to a refusal
-pub data Next : Type 0 where
-  goes : Mode → List Kind → Mark → Next
-  notJson tooDeep : Next
-
--- the bytes from one to another, and where each leads
+-- the bytes from one to another, and what each does
 pub record Row : Type 0 where
   pub low : ℕ
   pub high : ℕ
-  pub next : ℕ → Next
+  pub move : Move
 
-abbrev pub from_to_go_ : ℕ → ℕ → (ℕ → Next) → Row
-from low to high go next = record { low = low; high = high; next = next }
+abbrev pub from_to_go_ : ℕ → ℕ → Move → Row
+from low to high go move = record { low = low; high = high; move = move }
 
-abbrev pub on_go_ : ℕ → Next → Row
-on b go next = record { low = b; high = b; next = λ c. next }
+abbrev pub on_go_ : ℕ → Move → Row
+on b go move = record { low = b; high = b; move = move }
 
-unfoldable pub lookUp : List Row → ℕ → Next
-lookUp [] b = notJson
-lookUp (r ∷ rs) b = if r .low ≤? b && b ≤? r .high then r .next b else lookUp rs b
+unfoldable pub lookUp : List Row → ℕ → Move
+lookUp [] b = stops
+lookUp (r ∷ rs) b = if r .low ≤? b && b ≤? r .high then r .move else lookUp rs b
 
-abbrev pub silent : Mark
-silent = lays []
-
-unfoldable pub spaceRows : Mode → List Kind → List Row
-spaceRows m ks =
-    on 0x20 go goes m ks silent
-    ∷ on 0x09 go goes m ks silent
-    ∷ on 0x0A go goes m ks silent
-    ∷ on 0x0D go goes m ks silent
+unfoldable pub spaceRows : Mode → List Row
+spaceRows m =
+    on 0x20 go leads m []
+    ∷ on 0x09 go leads m []
+    ∷ on 0x0A go leads m []
+    ∷ on 0x0D go leads m []
     ∷ []
 
--- a container more, if there may be one
-unfoldable pub opened : ℕ → List Kind → Next → Next
-opened most ks next = if length ks <? most then next else tooDeep
-
--- the first byte of a value: events 5, 4, 6, 7 and 8 are letters 3, 2, 4, 5 and 6, and 0 2 and 0 3 open an object and an array
-unfoldable pub valueRows : ℕ → List Kind → List Row
-valueRows most ks =
-    from 0x31 to 0x39 go (λ b. goes (number digits) ks (lays (5 ∷ [])))
-    ∷ on 0x30 go goes (number zeroFirst) ks (lays (5 ∷ []))
-    ∷ on 0x2D go goes (number afterMinus) ks (lays (5 ∷ []))
-    ∷ on 0x22 go goes (string ofValue plain) ks (begins (4 ∷ []))
-    ∷ on 0x74 go goes (word 0x72 (0x75 ∷ 0x65 ∷ [])) ks (lays (6 ∷ []))
-    ∷ on 0x66 go goes (word 0x61 (0x6C ∷ 0x73 ∷ 0x65 ∷ [])) ks (lays (7 ∷ []))
-    ∷ on 0x6E go goes (word 0x75 (0x6C ∷ 0x6C ∷ [])) ks (lays (8 ∷ []))
-    ∷ on 0x7B go opened most ks (goes (gap (member true)) (object ∷ ks) (lays (0 ∷ 2 ∷ [])))
-    ∷ on 0x5B go opened most ks (goes (gap (value true)) (array ∷ ks) (lays (0 ∷ 3 ∷ [])))
+-- the first byte of a value: events 5, 4, 6, 7 and 8 are letters 3, 2, 4, 5 and 6
+unfoldable pub valueRows : List Row
+valueRows =
+    from 0x31 to 0x39 go leads (number digits) (5 ∷ [])
+    ∷ on 0x30 go leads (number zeroFirst) (5 ∷ [])
+    ∷ on 0x2D go leads (number afterMinus) (5 ∷ [])
+    ∷ on 0x22 go begins ofValue (4 ∷ [])
+    ∷ on 0x74 go leads (word 0x72 (0x75 ∷ 0x65 ∷ [])) (6 ∷ [])
+    ∷ on 0x66 go leads (word 0x61 (0x6C ∷ 0x73 ∷ 0x65 ∷ [])) (7 ∷ [])
+    ∷ on 0x6E go leads (word 0x75 (0x6C ∷ 0x6C ∷ [])) (8 ∷ [])
+    ∷ on 0x7B go opens object
+    ∷ on 0x5B go opens array
     ∷ []
 
 -- the end of the array or of the object just begun
-unfoldable pub emptyArrayRows : Bool → List Kind → List Row
-emptyArrayRows false ks = []
-emptyArrayRows true [] = []
-emptyArrayRows true (object ∷ ks) = []
-emptyArrayRows true (array ∷ ks) = on 0x5D go goes (gap after) ks (lays (1 ∷ [])) ∷ []
+unfoldable pub emptyArrayRows : Bool → Top → List Row
+emptyArrayRows false top = []
+emptyArrayRows true noneOpen = []
+emptyArrayRows true inObject = []
+emptyArrayRows true inArray = on 0x5D go closes (1 ∷ []) ∷ []
 
-unfoldable pub emptyObjectRows : Bool → List Kind → List Row
-emptyObjectRows false ks = []
-emptyObjectRows true [] = []
-emptyObjectRows true (object ∷ ks) = on 0x7D go goes (gap after) ks (lays (1 ∷ [])) ∷ []
-emptyObjectRows true (array ∷ ks) = []
+unfoldable pub emptyObjectRows : Bool → Top → List Row
+emptyObjectRows false top = []
+emptyObjectRows true noneOpen = []
+emptyObjectRows true inObject = on 0x7D go closes (1 ∷ []) ∷ []
+emptyObjectRows true inArray = []
 
 -- after a value: in an object its member's tree ends there too
-unfoldable pub afterRows : List Kind → List Row
-afterRows [] = []
-afterRows (object ∷ ks) =
-    on 0x2C go goes (gap (member false)) (object ∷ ks) (lays (1 ∷ []))
-    ∷ on 0x7D go goes (gap after) ks (lays (1 ∷ 1 ∷ []))
-    ∷ []
-afterRows (array ∷ ks) =
-    on 0x2C go goes (gap (value false)) (array ∷ ks) silent
-    ∷ on 0x5D go goes (gap after) ks (lays (1 ∷ []))
-    ∷ []
+unfoldable pub afterRows : Top → List Row
+afterRows noneOpen = []
+afterRows inObject = on 0x2C go leads (gap (member false)) (1 ∷ []) ∷ on 0x7D go closes (1 ∷ 1 ∷ []) ∷ []
+afterRows inArray = on 0x2C go leads (gap (value false)) [] ∷ on 0x5D go closes (1 ∷ []) ∷ []
 
-unfoldable pub gapRows : ℕ → Gap → List Kind → List Row
-gapRows most (value first) ks = valueRows most ks ++ emptyArrayRows first ks
-gapRows most (member first) ks = on 0x22 go goes (string ofKey plain) ks (begins []) ∷ emptyObjectRows first ks
-gapRows most colon ks = on 0x3A go goes (gap (value false)) ks silent ∷ []
-gapRows most after ks = afterRows ks
+unfoldable pub gapRows : Gap → Top → List Row
+gapRows (value first) top = valueRows ++ emptyArrayRows first top
+gapRows (member first) top = on 0x22 go begins ofKey [] ∷ emptyObjectRows first top
+gapRows colon top = on 0x3A go leads (gap (value false)) [] ∷ []
+gapRows after top = afterRows top
 
 -- a digit of a number, its point, its e
-unfoldable pub digitRow : InNumber → List Kind → Row
-digitRow n ks = from 0x30 to 0x39 go (λ b. goes (number n) ks silent)
+unfoldable pub digitRow : InNumber → Row
+digitRow n = from 0x30 to 0x39 go leads (number n) []
 
-unfoldable pub pointRow : List Kind → Row
-pointRow ks = on 0x2E go goes (number afterPoint) ks silent
+unfoldable pub pointRow : Row
+pointRow = on 0x2E go leads (number afterPoint) []
 
-unfoldable pub smallRow : List Kind → Row
-smallRow ks = on 0x65 go goes (number afterE) ks silent
+unfoldable pub smallRow : Row
+smallRow = on 0x65 go leads (number afterE) []
 
-unfoldable pub capitalRow : List Kind → Row
-capitalRow ks = on 0x45 go goes (number afterE) ks silent
+unfoldable pub capitalRow : Row
+capitalRow = on 0x45 go leads (number afterE) []
 
 -- a number may end, and what follows a value comes next
-unfoldable pub endRows : List Kind → List Row
-endRows ks = spaceRows (gap after) ks ++ afterRows ks
+unfoldable pub endRows : Top → List Row
+endRows top = spaceRows (gap after) ++ afterRows top
 
-unfoldable pub numberRows : InNumber → List Kind → List Row
-numberRows afterMinus ks =
-    from 0x31 to 0x39 go (λ b. goes (number digits) ks silent)
-    ∷ on 0x30 go goes (number zeroFirst) ks silent
+unfoldable pub numberRows : InNumber → Top → List Row
+numberRows afterMinus top = from 0x31 to 0x39 go leads (number digits) [] ∷ on 0x30 go leads (number zeroFirst) [] ∷ []
+numberRows zeroFirst top = pointRow ∷ smallRow ∷ capitalRow ∷ endRows top
+numberRows digits top = digitRow digits ∷ pointRow ∷ smallRow ∷ capitalRow ∷ endRows top
+numberRows afterPoint top = digitRow fraction ∷ []
+numberRows fraction top = digitRow fraction ∷ smallRow ∷ capitalRow ∷ endRows top
+numberRows afterE top =
+    digitRow power
+    ∷ on 0x2D go leads (number afterSign) []
+    ∷ on 0x2B go leads (number afterSign) []
     ∷ []
-numberRows zeroFirst ks = pointRow ks ∷ smallRow ks ∷ capitalRow ks ∷ endRows ks
-numberRows digits ks = digitRow digits ks ∷ pointRow ks ∷ smallRow ks ∷ capitalRow ks ∷ endRows ks
-numberRows afterPoint ks = digitRow fraction ks ∷ []
-numberRows fraction ks = digitRow fraction ks ∷ smallRow ks ∷ capitalRow ks ∷ endRows ks
-numberRows afterE ks =
-    digitRow power ks
-    ∷ on 0x2D go goes (number afterSign) ks silent
-    ∷ on 0x2B go goes (number afterSign) ks silent
-    ∷ []
-numberRows afterSign ks = digitRow power ks ∷ []
-numberRows power ks = digitRow power ks ∷ endRows ks
+numberRows afterSign top = digitRow power ∷ []
+numberRows power top = digitRow power ∷ endRows top
 
 -- after a string: the colon, or what follows a value
-unfoldable pub afterString : Whose → List Kind → Next
-afterString ofKey ks = goes (gap colon) ks keyEnds
-afterString ofValue ks = goes (gap after) ks silent
-
--- a byte of a string as it stands, and where it leads
-unfoldable pub heard : Whose → InString → List Kind → ℕ → Next
-heard w i ks b = goes (string w i) ks (hears (byte b))
-
--- an escape of one letter
-unfoldable pub escapes : Whose → List Kind → ℕ → Next
-escapes w ks b = goes (string w plain) ks (hears (byte b))
+unfoldable pub afterString : Whose → Move
+afterString ofKey = endsKey
+afterString ofValue = leads (gap after) []
 
 -- a hex digit, by what it counts
-unfoldable pub hexRows : Whose → InString → List Kind → List Row
-hexRows w i ks =
-    from 0x30 to 0x39 go (λ b. goes (string w i) ks (counts (b - 0x30)))
-    ∷ from 0x41 to 0x46 go (λ b. goes (string w i) ks (counts (b - 0x37)))
-    ∷ from 0x61 to 0x66 go (λ b. goes (string w i) ks (counts (b - 0x57)))
+unfoldable pub hexRows : Whose → InString → List Row
+hexRows w i =
+    from 0x30 to 0x39 go counts w i 0x30
+    ∷ from 0x41 to 0x46 go counts w i 0x37
+    ∷ from 0x61 to 0x66 go counts w i 0x57
     ∷ []
 
-unfoldable pub stringRows : Whose → InString → List Kind → List Row
-stringRows w plain ks =
-    from 0x20 to 0x21 go heard w plain ks
-    ∷ from 0x23 to 0x5B go heard w plain ks
-    ∷ from 0x5D to 0x7F go heard w plain ks
-    ∷ on 0x22 go afterString w ks
-    ∷ on 0x5C go goes (string w escape) ks silent
-    ∷ from 0xC2 to 0xDF go heard w tail1 ks
-    ∷ from 0xE0 to 0xE0 go heard w afterE0 ks
-    ∷ from 0xE1 to 0xEC go heard w tail2 ks
-    ∷ from 0xED to 0xED go heard w afterED ks
-    ∷ from 0xEE to 0xEF go heard w tail2 ks
-    ∷ from 0xF0 to 0xF0 go heard w afterF0 ks
-    ∷ from 0xF1 to 0xF3 go heard w tail3 ks
-    ∷ from 0xF4 to 0xF4 go heard w afterF4 ks
+unfoldable pub stringRows : Whose → InString → List Row
+stringRows w plain =
+    from 0x20 to 0x21 go hears w plain
+    ∷ from 0x23 to 0x5B go hears w plain
+    ∷ from 0x5D to 0x7F go hears w plain
+    ∷ on 0x22 go afterString w
+    ∷ on 0x5C go leads (string w escape) []
+    ∷ from 0xC2 to 0xDF go hears w tail1
+    ∷ from 0xE0 to 0xE0 go hears w afterE0
+    ∷ from 0xE1 to 0xEC go hears w tail2
+    ∷ from 0xED to 0xED go hears w afterED
+    ∷ from 0xEE to 0xEF go hears w tail2
+    ∷ from 0xF0 to 0xF0 go hears w afterF0
+    ∷ from 0xF1 to 0xF3 go hears w tail3
+    ∷ from 0xF4 to 0xF4 go hears w afterF4
     ∷ []
-stringRows w escape ks =
-    on 0x22 go escapes w ks 0x22
-    ∷ on 0x5C go escapes w ks 0x5C
-    ∷ on 0x2F go escapes w ks 0x2F
-    ∷ on 0x62 go escapes w ks 0x08
-    ∷ on 0x66 go escapes w ks 0x0C
-    ∷ on 0x6E go escapes w ks 0x0A
-    ∷ on 0x72 go escapes w ks 0x0D
-    ∷ on 0x74 go escapes w ks 0x09
-    ∷ on 0x75 go goes (string w hex4) ks (hears (unit 0))
+stringRows w escape =
+    on 0x22 go says w plain (byte 0x22)
+    ∷ on 0x5C go says w plain (byte 0x5C)
+    ∷ on 0x2F go says w plain (byte 0x2F)
+    ∷ on 0x62 go says w plain (byte 0x08)
+    ∷ on 0x66 go says w plain (byte 0x0C)
+    ∷ on 0x6E go says w plain (byte 0x0A)
+    ∷ on 0x72 go says w plain (byte 0x0D)
+    ∷ on 0x74 go says w plain (byte 0x09)
+    ∷ on 0x75 go says w hex4 (unit 0)
     ∷ []
-stringRows w hex4 ks = hexRows w hex3 ks
-stringRows w hex3 ks = hexRows w hex2 ks
-stringRows w hex2 ks = hexRows w hex1 ks
-stringRows w hex1 ks = hexRows w plain ks
-stringRows w tail1 ks = from 0x80 to 0xBF go heard w plain ks ∷ []
-stringRows w tail2 ks = from 0x80 to 0xBF go heard w tail1 ks ∷ []
-stringRows w tail3 ks = from 0x80 to 0xBF go heard w tail2 ks ∷ []
-stringRows w afterE0 ks = from 0xA0 to 0xBF go heard w tail1 ks ∷ []
-stringRows w afterED ks = from 0x80 to 0x9F go heard w tail1 ks ∷ []
-stringRows w afterF0 ks = from 0x90 to 0xBF go heard w tail2 ks ∷ []
-stringRows w afterF4 ks = from 0x80 to 0x8F go heard w tail2 ks ∷ []
+stringRows w hex4 = hexRows w hex3
+stringRows w hex3 = hexRows w hex2
+stringRows w hex2 = hexRows w hex1
+stringRows w hex1 = hexRows w plain
+stringRows w tail1 = from 0x80 to 0xBF go hears w plain ∷ []
+stringRows w tail2 = from 0x80 to 0xBF go hears w tail1 ∷ []
+stringRows w tail3 = from 0x80 to 0xBF go hears w tail2 ∷ []
+stringRows w afterE0 = from 0xA0 to 0xBF go hears w tail1 ∷ []
+stringRows w afterED = from 0x80 to 0x9F go hears w tail1 ∷ []
+stringRows w afterF0 = from 0x90 to 0xBF go hears w tail2 ∷ []
+stringRows w afterF4 = from 0x80 to 0x8F go hears w tail2 ∷ []
 
 -- a byte more of a word, which may be its last
 unfoldable pub wordOn : List ℕ → Mode
 wordOn [] = gap after
 wordOn (c ∷ cs) = word c cs
 
-unfoldable pub rows : ℕ → Mode → List Kind → List Row
-rows most (gap g) ks = spaceRows (gap g) ks ++ gapRows most g ks
-rows most (number n) ks = numberRows n ks
-rows most (string w i) ks = stringRows w i ks
-rows most (word c cs) ks = on c go goes (wordOn cs) ks silent ∷ []
+unfoldable pub rows : Mode → Top → List Row
+rows (gap g) top = spaceRows (gap g) ++ gapRows g top
+rows (number n) top = numberRows n top
+rows (string w i) top = stringRows w i
+rows (word c cs) top = on c go leads (wordOn cs) [] ∷ []
 
--- ---- one byte, and the end
+-- ---- the state after a byte
 
-unfoldable pub step : ℕ → Mode → List Kind → ℕ → Next
-step most m ks b = lookUp (rows most m ks) b
+-- Where the reader stands, the kinds of the open containers, the innermost first, and the pieces of the string last begun, the last
+-- one first.
+pub record State : Type 0 where
+  pub mode : Mode
+  pub kinds : List Kind
+  pub key : List Piece
+
+abbrev pub state : Mode → List Kind → List Piece → State
+state m ks key = record { mode = m; kinds = ks; key = key }
+
+-- on to a state, with events laid down, or a refusal
+pub data Next : Type 0 where
+  goes : Mode → List Kind → List Piece → List ℕ → Next
+  notJson tooDeep : Next
+
+-- a hex digit more of the last piece
+unfoldable pub counted : ℕ → List Piece → List Piece
+counted v [] = []
+counted v (byte b ∷ ps) = byte b ∷ ps
+counted v (unit n ∷ ps) = unit (16 * n + v) ∷ ps
+
+-- a container more, if there may be one
+unfoldable pub opened : ℕ → List Kind → Next → Next
+opened most ks next = if length ks <? most then next else tooDeep
+
+-- the containers that stay open when the innermost one is closed
+unfoldable pub outer : List Kind → List Kind
+outer [] = []
+outer (k ∷ ks) = ks
+
+-- 0 2 and 0 3 open an object and an array; 0 and the key's letter open a member
+unfoldable pub perform : List (List ℕ) → ℕ → List Kind → List Piece → ℕ → Move → Next
+perform names most ks key b stops = notJson
+perform names most ks key b (leads m es) = goes m ks key es
+perform names most ks key b (begins w es) = goes (string w plain) ks [] es
+perform names most ks key b (hears w i) = goes (string w i) ks (byte b ∷ key) []
+perform names most ks key b (says w i p) = goes (string w i) ks (p ∷ key) []
+perform names most ks key b (counts w i less) = goes (string w i) ks (counted (b - less) key) []
+perform names most ks key b endsKey = goes (gap colon) ks key (0 ∷ suc (suc (keyLetter names (reverse key))) ∷ [])
+perform names most ks key b (opens object) = opened most ks (goes (gap (member true)) (object ∷ ks) key (0 ∷ 2 ∷ []))
+perform names most ks key b (opens array) = opened most ks (goes (gap (value true)) (array ∷ ks) key (0 ∷ 3 ∷ []))
+perform names most ks key b (closes es) = goes (gap after) (outer ks) key es
+
+unfoldable pub moveAt : Mode → List Kind → ℕ → Move
+moveAt m ks b = lookUp (rows m (topOf ks)) b
+
+unfoldable pub step : List (List ℕ) → ℕ → State → ℕ → Next
+step names most σ b = perform names most (σ .kinds) (σ .key) b (moveAt (σ .mode) (σ .kinds) b)
+
+-- ---- the end of a text
 
 -- a number may end with the text
 unfoldable pub numberEnds : InNumber → Bool
@@ -290,26 +304,19 @@ mayEnd (word c cs) ks = false
 
 -- ---- the rest of a text
 
-pub record State : Type 0 where
-  pub mode : Mode
-  pub kinds : List Kind
-  pub key : List Piece
-
-unfoldable pub onNext : List (List ℕ) → ℕ → List Piece → Next → (State → Answer (List ℕ)) → Answer (List ℕ)
-onNext names place key (goes m ks mark) rest =
-    rest (record { mode = m; kinds = ks; key = keyAfter mark key }) giving λ es. given (laid names mark key ++ es)
-onNext names place key notJson rest = refused 20 place
-onNext names place key tooDeep rest = refused 21 place
+unfoldable pub onNext : ℕ → Next → (State → Answer (List ℕ)) → Answer (List ℕ)
+onNext place (goes m ks key es) rest = rest (state m ks key) giving λ more. given (es ++ more)
+onNext place notJson rest = refused 20 place
+onNext place tooDeep rest = refused 21 place
 
 -- the events of what is left of a text, or its refusal, from a place and a state on
 unfoldable pub readFrom : List (List ℕ) → ℕ → ℕ → State → List ℕ → Answer (List ℕ)
 readFrom names most place σ [] = if mayEnd (σ .mode) (σ .kinds) then given [] else refused 20 place
-readFrom names most place σ (b ∷ s) =
-    onNext names place (σ .key) (step most (σ .mode) (σ .kinds) b) (λ next. readFrom names most (suc place) next s)
+readFrom names most place σ (b ∷ s) = onNext place (step names most σ b) (λ next. readFrom names most (suc place) next s)
 
 -- before the first byte
 unfoldable pub start : State
-start = record { mode = gap (value false); kinds = []; key = [] }
+start = state (gap (value false)) [] []
 
 -- what it answers of a whole text
 unfoldable pub readText : List (List ℕ) → List ℕ → Answer (List ℕ)
