@@ -11,3 +11,4 @@ pub mod Sound
 pub mod Beginnings
 pub mod Judging
 pub mod OneJudgement
+pub mod TableSays

@@ -1,2 +1,4 @@
 -- The reader's definitions.
 pub mod Reader
+pub mod Codes
+pub mod Shapes
