@@ -12,3 +12,4 @@ pub mod Beginnings
 pub mod Judging
 pub mod OneJudgement
 pub mod TableSays
+pub mod CountsRead

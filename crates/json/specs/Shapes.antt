@@ -129,21 +129,32 @@ shapeAt top code = getD (onwardTo places ++ otherShapes top) code stopped
 
 -- ---- counting
 
+-- where a byte leads: on, with so many events laid down, or to a refusal
+pub data Count : Type 0 where
+  onTo : Mode → List Kind → ℕ → Count
+  noText tooMany : Count
+
+unfoldable pub openedTo : ℕ → Mode → Kind → List Kind → Count
+openedTo most m k ks = if length ks <? most then onTo m (k ∷ ks) 2 else tooMany
+
+unfoldable pub shapeCount : ℕ → List Kind → Shape → Count
+shapeCount most ks stopped = noText
+shapeCount most ks (onward m es) = onTo m ks (length es)
+shapeCount most ks keyEnd = onTo (gap colon) ks 2
+shapeCount most ks (opening object) = openedTo most (gap (member true)) object ks
+shapeCount most ks (opening array) = openedTo most (gap (value true)) array ks
+shapeCount most ks (closing es) = onTo (gap after) (outer ks) (length es)
+
 unfoldable pub adding : ℕ → Answer ℕ → Answer ℕ
 adding n answer = answer giving λ more. given (n + more)
 
-unfoldable pub onShape : ℕ → ℕ → List Kind → Shape → (Mode → List Kind → Answer ℕ) → Answer ℕ
-onShape most place ks stopped rest = refused 20 place
-onShape most place ks (onward m es) rest = adding (length es) (rest m ks)
-onShape most place ks keyEnd rest = adding 2 (rest (gap colon) ks)
-onShape most place ks (opening object) rest =
-    if length ks <? most then adding 2 (rest (gap (member true)) (object ∷ ks)) else refused 21 place
-onShape most place ks (opening array) rest =
-    if length ks <? most then adding 2 (rest (gap (value true)) (array ∷ ks)) else refused 21 place
-onShape most place ks (closing es) rest = adding (length es) (rest (gap after) (outer ks))
+unfoldable pub onCount : ℕ → Count → (Mode → List Kind → Answer ℕ) → Answer ℕ
+onCount place (onTo m ks n) rest = adding n (rest m ks)
+onCount place noText rest = refused 20 place
+onCount place tooMany rest = refused 21 place
 
 -- how many events the rest of a text lays down, or its refusal
 unfoldable pub countFrom : ℕ → ℕ → Mode → List Kind → List ℕ → Answer ℕ
 countFrom most place m ks [] = if mayEnd m ks then given 0 else refused 20 place
 countFrom most place m ks (b ∷ s) =
-    onShape most place ks (shapeOf (moveAt m ks b)) (λ next kinds. countFrom most (suc place) next kinds s)
+    onCount place (shapeCount most ks (shapeOf (moveAt m ks b))) (λ next kinds. countFrom most (suc place) next kinds s)
