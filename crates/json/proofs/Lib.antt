@@ -13,3 +13,6 @@ pub mod Judging
 pub mod OneJudgement
 pub mod TableSays
 pub mod CountsRead
+pub mod Held
+pub mod CodesSay
+pub mod TopsSay

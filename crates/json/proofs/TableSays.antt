@@ -8,7 +8,7 @@ use native.Mathlib.Omega.{arith}
 use lib.ListN.{length, getD, drop}
 use lib.Seq.{getD-drop, drop-drop}
 use Rattle.meaning.specs.Answers.{if_then_else_}
-use Rattle.json.specs.Reader.{Mode, gap, after, Top, noneOpen, inObject, inArray, Row, lookUp, rows, spaceRows, gapRows, valueRows, emptyArrayRows, emptyObjectRows, afterRows, digitRow, pointRow, smallRow, capitalRow, endRows, numberRows, afterString, hexRows, stringRows, wordOn}
+use Rattle.json.specs.Reader.{Kind, Mode, gap, after, Top, topOf, moveAt, noneOpen, inObject, inArray, Row, lookUp, rows, spaceRows, gapRows, valueRows, emptyArrayRows, emptyObjectRows, afterRows, digitRow, pointRow, smallRow, capitalRow, endRows, numberRows, afterString, hexRows, stringRows, wordOn}
 use Rattle.json.specs.Codes.{classes, codes}
 use Rattle.json.specs.Shapes.{Shape, stopped, shapeOf, within, wordPlaces, places, placeAt, commaShape, arrayEndShape, objectEndShape, otherShapes, onwardTo, shapeAt}
 
@@ -120,3 +120,11 @@ says top m b h l =
     (sym (all-rows-at top places m place) ∙ (ap (λ (l : List (List Shape)). getD l m []) (all-same top) ∙ all-codes-at top 49 codes m h))
     ∙ (codes-at top (drop (m * 40) codes) classes b class
     ∙ ap (shapeAt top) (getD-drop (m * 40) codes (getD classes b 0) 0))))
+
+-- the same of a class and a code that were looked up
+pub code-says : (ks : List Kind) (place b class code : ℕ) → place < 49 → b < 256 → class ≡ getD classes b 0 → code ≡ getD codes (place * 40 + class) 0
+    → shapeOf (moveAt (placeAt place) ks b) ≡ shapeAt (topOf ks) code
+unfolding moveAt
+code-says ks place b class code h l e d =
+    says (topOf ks) place b h l
+    ∙ ap (shapeAt (topOf ks)) (ap (λ (c : ℕ). getD codes (place * 40 + c) 0) (sym e) ∙ sym d)

@@ -2,3 +2,4 @@
 pub mod Reader
 pub mod Codes
 pub mod Shapes
+pub mod Standings

@@ -1,5 +1,6 @@
 // The import of a JSON text: the reader one byte at a time, and the loops over it.
 mod table;
+mod turns;
 
 use meaning::Refusal;
 
@@ -7,4 +8,19 @@ use meaning::Refusal;
 pub enum Imported {
     Events(usize),
     Refused(Refusal),
+}
+
+// The place in the text by its number, how many containers are open, and their kinds, the innermost in the lowest bit: 0 for an
+// object and 1 for an array.
+pub struct Standing {
+    pub place: u8,
+    pub depth: u8,
+    pub kinds: u64,
+}
+
+// What one byte leads to: on, with so many events laid down, or a refusal.
+pub enum Turn {
+    On(Standing, u8),
+    NotJson,
+    TooDeep,
 }
