@@ -16,3 +16,4 @@ pub mod CountsRead
 pub mod Held
 pub mod CodesSay
 pub mod TopsSay
+pub mod CheckOn

@@ -3,3 +3,5 @@ pub mod Reader
 pub mod Codes
 pub mod Shapes
 pub mod Standings
+pub mod Says
+pub mod Checking

@@ -2,7 +2,7 @@
 ghost use mathlib.Core.Path.{_≡_};
 ghost use Prim.Native.Nat.{_+_, _*_, _<_};
 ghost use lib.ListN.{getD};
-ghost use Rattle.json.specs.Codes.{classes, codes};
+ghost use Rattle.json.specs.Codes.{classes, codes, ends};
 
 // Bytes of one class do the same everywhere.
 const CLASSES: [u8; 256] = [
@@ -2233,6 +2233,59 @@ const CODES: [u8; 1960] = [
     49,
 ];
 
+// 1 for the places at which the text may end, if no container is open.
+const ENDS: [u8; 49] = [
+    0,
+    0,
+    0,
+    0,
+    0,
+    1,
+    0,
+    1,
+    1,
+    0,
+    1,
+    0,
+    0,
+    1,
+    0,
+    0,
+    0,
+    0,
+    0,
+    0,
+    0,
+    0,
+    0,
+    0,
+    0,
+    0,
+    0,
+    0,
+    0,
+    0,
+    0,
+    0,
+    0,
+    0,
+    0,
+    0,
+    0,
+    0,
+    0,
+    0,
+    0,
+    0,
+    0,
+    0,
+    0,
+    0,
+    0,
+    0,
+    0,
+];
+
 pub fn class_of(b: u8) -> u8
     ensures { λ r. ⌜ r ≡ getD classes b 0 ⌝ }
 {
@@ -2245,4 +2298,11 @@ pub fn code_at(place: u8, class: u8) -> u8
     ensures { λ r. ⌜ r ≡ getD codes (place * 40 + class) 0 ⌝ }
 {
     CODES[(place as usize) * WIDTH + class as usize]
+}
+
+pub fn end_at(place: u8) -> u8
+    requires { ⌜ place < 49 ⌝ }
+    ensures { λ r. ⌜ r ≡ getD ends place 0 ⌝ }
+{
+    ENDS[place as usize]
 }

@@ -1,0 +1,109 @@
+-- The first pass goes on by a byte, stops at one, and comes to the end.
+use mathlib.Core.Path.{_≡_, refl, sym, ap, _∙_}
+use mathlib.Core.Bool.{Bool, true, false}
+use mathlib.Core.List.{List, [], _∷_}
+use Prim.Native.Nat.{ℕ, zero, suc, _+_, _*_, _≤_, _<_}
+use native.Mathlib.Nat.{add-assoc, add-zero, zero-add}
+use native.Mathlib.Numerals.{add-one}
+use native.Mathlib.Omega.{arith}
+use lib.ListN.{length, getD, drop}
+use lib.Seq.{drop-cons, drop-nil}
+use Rattle.meaning.specs.Answers.{Answer, given, refused, _giving_, if_then_else_}
+use Rattle.meaning.proofs.laws.Answered.{if-true, if-false}
+use Rattle.json.specs.Reader.{value, gap, moveAt, mayEnd}
+use Rattle.json.specs.Shapes.{within, wordPlaces, places, placeAt, shapeOf, Count, onTo, noText, tooMany, shapeCount, adding, onCount, countFrom}
+use Rattle.json.specs.Standings.{kindsOf, kindsIn, Stands, GoodTurn, goodOn, turnSays}
+use Rattle.json.specs.Checking.{Checks}
+use Rattle.json.specs.declared.Standing.{Standing}
+use Rattle.json.specs.declared.Turn.{Turn}
+use Rattle.json.specs.declared.Turn.the-variants as turn
+
+-- ---- adding
+
+adding-none : (a : Answer ℕ) → adding 0 a ≡ a
+unfolding adding _giving_
+adding-none (given n) = ap given (zero-add n)
+adding-none (refused number place) = refl
+
+adding-both : (n m : ℕ) (a : Answer ℕ) → adding n (adding m a) ≡ adding (n + m) a
+unfolding adding _giving_
+adding-both n m (given k) = ap given (sym (add-assoc n m k))
+adding-both n m (refused number place) = refl
+
+-- nothing is left past the end
+drop-all : (k : ℕ) (l : List ℕ) → length l ≤ k → drop k l ≡ []
+drop-all k [] h = drop-nil k
+drop-all zero (x ∷ l) h = absurd (omega arith)
+drop-all (suc k) (x ∷ l) h = drop-all k l (omega arith)
+
+-- a turn that leads on has two events at the most
+pub few-events : {next : Standing} {events : ℕ} → GoodTurn (turn.On next events) → Stands next × (events ≤ 2)
+few-events (goodOn stands few) = (stands, few)
+
+-- ---- the beginning
+
+pub starts : (text : List ℕ) → Checks text (record { place = 0; depth = 0; kinds = 0 }) 0 0
+unfolding placeAt places within wordPlaces kindsOf
+starts text =
+    record {
+      within = omega arith;
+      stands = record { placed = omega arith; few = omega arith; bits = omega arith };
+      few = omega arith;
+      comes = sym (adding-none _);
+    }
+
+-- ---- one byte
+
+module _ {text : List ℕ} {at : Standing} {count i : ℕ} (so : Checks text at count i) where
+  -- what the byte at i leads to
+  turned : Count → Answer ℕ
+  turned n = onCount i n (λ m ks. countFrom 64 (suc i) m ks (drop (suc i) text))
+
+  abbrev byteSays : Count
+  byteSays = shapeCount 64 (kindsIn at) (shapeOf (moveAt (placeAt (at .place)) (kindsIn at) (getD text i 0)))
+
+  comes-by : i < length text → countFrom 64 0 (gap (value false)) [] text ≡ adding count (turned byteSays)
+  unfolding countFrom turned
+  comes-by h =
+      so .comes ∙ ap (λ (l : List ℕ). adding count (countFrom 64 i (placeAt (at .place)) (kindsIn at) l)) (drop-cons text i 0 h)
+
+  pub goes-on : (next : Standing) (events : ℕ) → i < length text → turnSays (turn.On next events) ≡ byteSays → GoodTurn (turn.On next events)
+      → Checks text next (count + events) (i + 1)
+  unfolding turned onCount turnSays
+  goes-on next events h said good =
+      let held = few-events good in
+      record {
+        within = omega arith;
+        stands = held .0;
+        few = omega (arith, so .few, held .1);
+        comes =
+            comes-by h
+            ∙ (ap (λ (n : Count). adding count (turned n)) (sym said)
+            ∙ (adding-both count events _
+            ∙ ap (λ (j : ℕ). adding (count + events) (countFrom 64 j (placeAt (next .place)) (kindsIn next) (drop j text))) (sym (add-one i))));
+      }
+
+  pub stops-not-json : i < length text → turnSays turn.NotJson ≡ byteSays → refused 20 i ≡ countFrom 64 0 (gap (value false)) [] text
+  unfolding turned onCount turnSays adding _giving_
+  stops-not-json h said = sym (comes-by h ∙ ap (λ (n : Count). adding count (turned n)) (sym said))
+
+  pub stops-too-deep : i < length text → turnSays turn.TooDeep ≡ byteSays → refused 21 i ≡ countFrom 64 0 (gap (value false)) [] text
+  unfolding turned onCount turnSays adding _giving_
+  stops-too-deep h said = sym (comes-by h ∙ ap (λ (n : Count). adding count (turned n)) (sym said))
+
+  -- ---- the end
+
+  comes-end : length text ≤ i
+      → countFrom 64 0 (gap (value false)) [] text ≡ adding count (if mayEnd (placeAt (at .place)) (kindsIn at) then given 0 else refused 20 i)
+  unfolding countFrom
+  comes-end h = so .comes ∙ ap (λ (l : List ℕ). adding count (countFrom 64 i (placeAt (at .place)) (kindsIn at) l)) (drop-all i text h)
+
+  pub ends-whole : length text ≤ i → mayEnd (placeAt (at .place)) (kindsIn at) ≡ true → given count ≡ countFrom 64 0 (gap (value false)) [] text
+  unfolding adding _giving_
+  ends-whole h t =
+      sym (comes-end h ∙ (ap (adding count) (if-true (given 0) (refused 20 i) t) ∙ ap given (add-zero count)))
+
+  pub ends-early : length text ≤ i → mayEnd (placeAt (at .place)) (kindsIn at) ≡ false
+      → refused 20 i ≡ countFrom 64 0 (gap (value false)) [] text
+  unfolding adding _giving_
+  ends-early h t = sym (comes-end h ∙ ap (adding count) (if-false (given 0) (refused 20 i) t))
