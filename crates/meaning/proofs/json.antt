@@ -1,2 +1,3 @@
 -- The events of JSON texts.
 pub mod TextEvents
+pub mod NamesRead
