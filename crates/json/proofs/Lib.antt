@@ -17,3 +17,4 @@ pub mod Held
 pub mod CodesSay
 pub mod TopsSay
 pub mod CheckOn
+pub mod ImportSays

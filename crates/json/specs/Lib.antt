@@ -5,3 +5,4 @@ pub mod Shapes
 pub mod Standings
 pub mod Says
 pub mod Checking
+pub mod Importing
