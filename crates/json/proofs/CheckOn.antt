@@ -20,18 +20,18 @@ use Rattle.json.specs.declared.Turn.the-variants as turn
 
 -- ---- adding
 
-adding-none : (a : Answer ℕ) → adding 0 a ≡ a
+pub adding-none : (a : Answer ℕ) → adding 0 a ≡ a
 unfolding adding _giving_
 adding-none (given n) = ap given (zero-add n)
 adding-none (refused number place) = refl
 
-adding-both : (n m : ℕ) (a : Answer ℕ) → adding n (adding m a) ≡ adding (n + m) a
+pub adding-both : (n m : ℕ) (a : Answer ℕ) → adding n (adding m a) ≡ adding (n + m) a
 unfolding adding _giving_
 adding-both n m (given k) = ap given (sym (add-assoc n m k))
 adding-both n m (refused number place) = refl
 
 -- nothing is left past the end
-drop-all : (k : ℕ) (l : List ℕ) → length l ≤ k → drop k l ≡ []
+pub drop-all : (k : ℕ) (l : List ℕ) → length l ≤ k → drop k l ≡ []
 drop-all k [] h = drop-nil k
 drop-all zero (x ∷ l) h = absurd (omega arith)
 drop-all (suc k) (x ∷ l) h = drop-all k l (omega arith)

@@ -18,3 +18,4 @@ pub mod CodesSay
 pub mod TopsSay
 pub mod CheckOn
 pub mod ImportSays
+pub mod NamesOn

@@ -6,3 +6,4 @@ pub mod Standings
 pub mod Says
 pub mod Checking
 pub mod Importing
+pub mod Naming
