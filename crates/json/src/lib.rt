@@ -1,6 +1,6 @@
 // The import of a JSON text: the reader one byte at a time, and the loops over it.
-mod checking;
-mod naming;
+pub mod checking;
+pub mod naming;
 mod table;
 mod turns;
 
