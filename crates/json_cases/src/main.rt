@@ -39,7 +39,7 @@ fn names(label: &[u8], list: &[u8]) {
     line(label, naming::count_names(list));
 }
 
-fn texts() {
+fn depth() {
     text(
         b"64 arrays and their ends",
         b"[[[[[[[[[[[[[[[[[[[[[[[[[[[[[[[[[[[[[[[[[[[[[[[[[[[[[[[[[[[[[[[[]]]]]]]]]]]]]]]]]]]]]]]]]]]]]]]]]]]]]]]]]]]]]]]]]]]]]]]]]]]]]]]]",
@@ -60,15 +60,40 @@ fn texts() {
         b"65 opening braces in members",
         b"{\"\":{\"\":{\"\":{\"\":{\"\":{\"\":{\"\":{\"\":{\"\":{\"\":{\"\":{\"\":{\"\":{\"\":{\"\":{\"\":{\"\":{\"\":{\"\":{\"\":{\"\":{\"\":{\"\":{\"\":{\"\":{\"\":{\"\":{\"\":{\"\":{\"\":{\"\":{\"\":{\"\":{\"\":{\"\":{\"\":{\"\":{\"\":{\"\":{\"\":{\"\":{\"\":{\"\":{\"\":{\"\":{\"\":{\"\":{\"\":{\"\":{\"\":{\"\":{\"\":{\"\":{\"\":{\"\":{\"\":{\"\":{\"\":{\"\":{\"\":{\"\":{\"\":{\"\":{\"\":{",
     );
+}
+
+fn commas_and_ends() {
     text(b"an array's comma before its end", b"[1,]");
     text(b"an object's comma before its end", b"{\"a\":1,}");
+    text(b"a bracket for a brace", b"[}");
+    text(b"a brace for a bracket", b"{\"a\":1]");
+    text(b"a member's key is no string", b"{a:1}");
+    text(b"a colon missing", b"{\"a\"1}");
+}
+
+fn numbers() {
     text(b"a zero before a digit", b"-01");
     text(b"a point at the end", b"1.");
     text(b"a point after the exponent", b"1e5.");
+    text(b"a number with all parts", b"-12.5E+003");
+    text(b"minus alone", b"-");
+    text(b"an exponent alone", b"1e");
+    text(b"a sign alone", b"1e+");
+}
+
+fn whole_texts() {
     text(b"two values", b"0 0");
     text(b"the empty text", b"");
     text(b"white space alone", b" \x09\x0a\x0d");
     text(b"a byte order mark", b"\xef\xbb\xbf1");
+    text(b"a top-level string", b"\"MARCH1\"");
+    text(
+        b"white space everywhere",
+        b" { \"a\" : [ 1 , { } , [ ] , null ] , \"b\" : false } ",
+    );
+}
+
+fn characters() {
     text(b"a first byte of two, and a mark", b"\"\xc3\"");
     text(b"overlong E0 80", b"\"\xe0\x80");
     text(b"a surrogate ED A0", b"\"\xed\xa0");
@@ -77,28 +102,21 @@ fn texts() {
     text(b"F5", b"\"\xf5");
     text(b"E2 82 and the end", b"\"\xe2\x82");
     text(b"the largest character", b"\"\xf4\x8f\xbf\xbf\"");
+}
+
+fn strings() {
     text(b"a control byte in a string", b"\"\x1f\"");
     text(b"DEL in a string", b"\"\x7f\"");
     text(b"a bad escape", b"\"\\x\"");
     text(b"a hex digit too few", b"\"\\u12g4\"");
     text(b"a lone surrogate", b"\"\\ud800\"");
+}
+
+fn words() {
     text(b"true", b"true");
     text(b"tru", b"tru");
     text(b"True", b"True");
     text(b"nul and a space", b"nul ");
-    text(b"a number with all parts", b"-12.5E+003");
-    text(b"minus alone", b"-");
-    text(b"an exponent alone", b"1e");
-    text(b"a sign alone", b"1e+");
-    text(b"a top-level string", b"\"MARCH1\"");
-    text(b"a member's key is no string", b"{a:1}");
-    text(b"a colon missing", b"{\"a\"1}");
-    text(b"a bracket for a brace", b"[}");
-    text(b"a brace for a bracket", b"{\"a\":1]");
-    text(
-        b"white space everywhere",
-        b" { \"a\" : [ 1 , { } , [ ] , null ] , \"b\" : false } ",
-    );
 }
 
 fn lists() {
@@ -112,6 +130,12 @@ fn lists() {
 }
 
 fn main() {
-    texts();
+    depth();
+    commas_and_ends();
+    numbers();
+    whole_texts();
+    characters();
+    strings();
+    words();
     lists();
 }
