@@ -9,10 +9,10 @@ use native.Mathlib.Omega.{arith}
 use lib.ListN.{length, getD, drop}
 use lib.Seq.{drop-cons, drop-nil}
 use Rattle.meaning.specs.Answers.{Answer, given, refused, _giving_, if_then_else_}
-use Rattle.meaning.proofs.laws.Answered.{if-true, if-false}
 use Rattle.json.specs.Reader.{value, gap, moveAt, mayEnd}
 use Rattle.json.specs.Shapes.{within, wordPlaces, places, placeAt, shapeOf, Count, onTo, noText, tooMany, shapeCount, adding, onCount, countFrom}
 use Rattle.json.specs.Standings.{kindsOf, kindsIn, Stands, GoodTurn, goodOn, turnSays}
+use Rattle.json.specs.Running.{Runs}
 use Rattle.json.specs.Checking.{Checks}
 use Rattle.json.specs.declared.Standing.{Standing}
 use Rattle.json.specs.declared.Turn.{Turn}
@@ -29,6 +29,11 @@ pub adding-both : (n m : ℕ) (a : Answer ℕ) → adding n (adding m a) ≡ add
 unfolding adding _giving_
 adding-both n m (given k) = ap given (sym (add-assoc n m k))
 adding-both n m (refused number place) = refl
+
+adding-if : (t : Bool) (n place : ℕ) → adding n (if t then given 0 else refused 20 place) ≡ (if t then given n else refused 20 place)
+unfolding adding _giving_ if_then_else_
+adding-if true n place = ap given (add-zero n)
+adding-if false n place = refl
 
 -- nothing is left past the end
 pub drop-all : (k : ℕ) (l : List ℕ) → length l ≤ k → drop k l ≡ []
@@ -91,6 +96,17 @@ module _ {text : List ℕ} {at : Standing} {count i : ℕ} (so : Checks text at 
   unfolding turned onCount turnSays adding _giving_
   stops-too-deep h said = sym (comes-by h ∙ ap (λ (n : Count). adding count (turned n)) (sym said))
 
+  -- a run before it
+  pub runs-on : {next here : ℕ} → Runs text i (at .place) next here
+      → Checks text (record { place = here; depth = at .depth; kinds = at .kinds }) count next
+  runs-on ran =
+      record {
+        within = ran .within;
+        stands = record { placed = ran .placed; few = so .stands .few; bits = so .stands .bits };
+        few = omega (arith, so .few, ran .further);
+        comes = so .comes ∙ ap (adding count) (ran .comes (kindsIn at));
+      }
+
   -- ---- the end
 
   comes-end : length text ≤ i
@@ -98,12 +114,6 @@ module _ {text : List ℕ} {at : Standing} {count i : ℕ} (so : Checks text at 
   unfolding countFrom
   comes-end h = so .comes ∙ ap (λ (l : List ℕ). adding count (countFrom 64 i (placeAt (at .place)) (kindsIn at) l)) (drop-all i text h)
 
-  pub ends-whole : length text ≤ i → mayEnd (placeAt (at .place)) (kindsIn at) ≡ true → given count ≡ countFrom 64 0 (gap (value false)) [] text
-  unfolding adding _giving_
-  ends-whole h t =
-      sym (comes-end h ∙ (ap (adding count) (if-true (given 0) (refused 20 i) t) ∙ ap given (add-zero count)))
-
-  pub ends-early : length text ≤ i → mayEnd (placeAt (at .place)) (kindsIn at) ≡ false
-      → refused 20 i ≡ countFrom 64 0 (gap (value false)) [] text
-  unfolding adding _giving_
-  ends-early h t = sym (comes-end h ∙ ap (adding count) (if-false (given 0) (refused 20 i) t))
+  pub ends-so : length text ≤ i
+      → (if mayEnd (placeAt (at .place)) (kindsIn at) then given count else refused 20 i) ≡ countFrom 64 0 (gap (value false)) [] text
+  ends-so h = sym (comes-end h ∙ adding-if (mayEnd (placeAt (at .place)) (kindsIn at)) count i)

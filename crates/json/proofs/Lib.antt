@@ -19,3 +19,4 @@ pub mod TopsSay
 pub mod CheckOn
 pub mod ImportSays
 pub mod NamesOn
+pub mod RunOn

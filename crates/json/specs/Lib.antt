@@ -7,3 +7,4 @@ pub mod Says
 pub mod Checking
 pub mod Importing
 pub mod Naming
+pub mod Running

@@ -2,13 +2,14 @@
 use crate::Imported;
 use crate::Standing;
 use crate::Turn;
+use crate::running;
 use crate::table;
 use crate::turns;
 use meaning::Refusal;
 ghost use mathlib.Core.Path.{_≡_};
 ghost use mathlib.Core.List.{[]};
 ghost use mathlib.Core.Bool.{false};
-ghost use Rattle.meaning.specs.Answers.{refused};
+ghost use Rattle.meaning.specs.Answers.{given, refused, if_then_else_};
 ghost use Rattle.json.specs.Reader.{value, gap, mayEnd};
 ghost use Rattle.json.specs.Shapes.{placeAt, countFrom};
 ghost use Rattle.json.specs.Standings.{kindsIn, Stands};
@@ -31,6 +32,18 @@ fn may_end(at: Standing) -> bool
     table::end_at(at.place) == 1
 }
 
+// At the end of a text, with so many events counted.
+fn ended(at: Standing, count: usize, place: usize) -> Imported
+    requires { ⌜ Stands at ⌝ }
+    ensures { λ r. ⌜ importSays r ≡ (if mayEnd (placeAt (at .place)) (kindsIn at) then given count else refused 20 place) ⌝ }
+{
+    if may_end(at) {
+        return Imported::Events(count);
+    }
+    refuse(20, place)
+}
+
+// A run of bytes that only lead on, and then one that does more, until the text ends or is refused.
 pub fn check(text: &[u8]) -> Imported
     ensures { λ r. ⌜ importSays r ≡ countFrom 64 0 (gap (value false)) [] (now (text .entry)) ⌝ }
 {
@@ -41,19 +54,25 @@ pub fn check(text: &[u8]) -> Imported
     };
     let mut count: usize = 0;
     let mut i = 0;
-    while i < text.len() {
-        match turns::turn(at, text[i]) {
-            Turn::On(next, events) => {
-                at = next;
+    loop {
+        let ran = running::run(text, i, at.place);
+        let next = ran.next;
+        let here = Standing {
+            place: ran.place,
+            depth: at.depth,
+            kinds: at.kinds,
+        };
+        if text.len() <= next {
+            return ended(here, count, next);
+        }
+        match turns::turn(here, text[next]) {
+            Turn::On(after, events) => {
+                at = after;
                 count += events as usize;
             }
-            Turn::NotJson => return refuse(20, i),
-            Turn::TooDeep => return refuse(21, i),
+            Turn::NotJson => return refuse(20, next),
+            Turn::TooDeep => return refuse(21, next),
         }
-        i += 1;
+        i = next + 1;
     }
-    if may_end(at) {
-        return Imported::Events(count);
-    }
-    refuse(20, i)
 }

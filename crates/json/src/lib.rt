@@ -1,6 +1,7 @@
 // The import of a JSON text: the reader one byte at a time, and the loops over it.
 pub mod checking;
 pub mod naming;
+mod running;
 mod table;
 mod turns;
 
@@ -25,4 +26,10 @@ pub enum Turn {
     On(Standing, u8),
     NotJson,
     TooDeep,
+}
+
+// How far a run of bytes came that lead from place to place and do nothing else, and to which place.
+pub struct Ran {
+    pub next: usize,
+    pub place: u8,
 }

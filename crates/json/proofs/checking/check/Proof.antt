@@ -1,13 +1,12 @@
--- `checking::check` meets its contract: what is counted so far and what is left to come are the whole count, at each byte.
+-- `checking::check` meets its contract: what is counted so far and what is left to come are the whole count, before each byte that
+-- does more than lead on.
 use mathlib.Core.Path.{sym, ap, subst, _∙_}
 use Prim.Native.Nat.{_-_}
 use lib.ListN.{length}
-use borrow.Author.Needs.{needs}
 use native.Mathlib.Omega.{arith}
 use Rattle.json.specs.Standings.{GoodTurn, turnSays}
 use Rattle.json.specs.Checking.{Checks}
-use Rattle.json.specs.Says.{importSays}
-use Rattle.json.proofs.CheckOn.{starts, few-events, goes-on, stops-not-json, stops-too-deep, ends-whole, ends-early}
+use Rattle.json.proofs.CheckOn.{starts, few-events, runs-on, goes-on, stops-not-json, stops-too-deep, ends-so}
 use Rattle.json.proofs.checking.check.Statement.{statement}
 use Rattle.json.proofs.checking.check.Tie as tie
 
@@ -20,82 +19,91 @@ abbrev μ-loop : tie.MeasureT-loop
 loop-holds : tie.Need-loop-holds Inv-loop μ-loop
 loop-holds c = starts _
 
+run-requires : tie.Need-run-requires Inv-loop μ-loop
+run-requires c κs = (c .loop .inv .within, c .loop .inv .stands .placed)
+
+ended-requires : tie.Need-ended-requires Inv-loop μ-loop
+ended-requires c κs = runs-on (c .before .before .loop .inv) (c .before .run .ensures) .stands
+
+returns : tie.Need-returns Inv-loop μ-loop
+returns c =
+    let run = c .before .before in
+    c .ended .ensures ∙ ends-so (runs-on (run .before .loop .inv) (run .run .ensures)) (c .before .if1 .taken)
+
 shared-slice-read-turn : tie.Need-shared-slice-read-turn Inv-loop μ-loop
-shared-slice-read-turn c = omega arith
+shared-slice-read-turn c = c .before .if1 .left
 
 turn-requires : tie.Need-turn-requires Inv-loop μ-loop
-turn-requires c κs = c .before .before .loop .inv .stands
+turn-requires c κs = runs-on (c .before .before .before .loop .inv) (c .before .before .run .ensures) .stands
 
-enum-known-next : tie.Need-enum-known-next Inv-loop μ-loop
-enum-known-next c = c .match .keys1
+enum-known-after : tie.Need-enum-known-after Inv-loop μ-loop
+enum-known-after c = c .match .keys1
 
 cast-count : tie.Need-cast-count Inv-loop μ-loop
-cast-count c = search needs
+cast-count c =
+    let held = few-events (subst GoodTurn (c .before .after .given .1) (c .before .before .before .turn .ensures .1)) in
+    omega (arith, held .1)
 
 add-count : tie.Need-add-count Inv-loop μ-loop
 add-count c =
-    let known = c .before .next .given in
-    let turned = c .before .before .before .turn in
-    let loop = c .before .before .before .before .before .before in
-    let held = few-events (subst GoodTurn (known .1) (turned .ensures .1)) in
-    omega (arith, loop .loop .inv .few, held .1, loop .before .before .good .0 .1, c .before .before .before .before .before .loop-test .taken)
+    let held = few-events (subst GoodTurn (c .before .after .given .1) (c .before .before .before .turn .ensures .1)) in
+    let further = c .before .before .before .before .before in
+    let run = further .before in
+    omega (
+      arith,
+      run .before .loop .inv .few,
+      run .run .ensures .further,
+      held .1,
+      run .before .before .before .good .0 .1,
+      further .if1 .left,
+    )
 
 enum-told : tie.Need-enum-told Inv-loop μ-loop
 enum-told c = c .match .keys2
 
 refuse-requires : tie.Need-refuse-requires Inv-loop μ-loop
-refuse-requires c κs = search needs
+refuse-requires c κs = tt
 
-returns : tie.Need-returns Inv-loop μ-loop
-returns c =
+returns-2 : tie.Need-returns-2 Inv-loop μ-loop
+returns-2 c =
     let turned = c .before .before .before .turn in
-    let inside = c .before .before .before .before .before in
+    let further = c .before .before .before .before .before in
+    let run = further .before in
     c .refuse .ensures
-    ∙ stops-not-json (inside .before .loop .inv) (inside .loop-test .taken) (ap turnSays (sym (c .before .enum-told .given .1)) ∙ turned .ensures .0)
+    ∙ stops-not-json (runs-on (run .before .loop .inv) (run .run .ensures)) (further .if1 .left)
+    (ap turnSays (sym (c .before .enum-told .given .1)) ∙ turned .ensures .0)
 
 enum-told-2 : tie.Need-enum-told-2 Inv-loop μ-loop
 enum-told-2 c = c .match .keys3
 
 refuse-requires-2 : tie.Need-refuse-requires-2 Inv-loop μ-loop
-refuse-requires-2 c κs = search needs
+refuse-requires-2 c κs = tt
 
-returns-2 : tie.Need-returns-2 Inv-loop μ-loop
-returns-2 c =
+returns-3 : tie.Need-returns-3 Inv-loop μ-loop
+returns-3 c =
     let turned = c .before .before .before .turn in
-    let inside = c .before .before .before .before .before in
+    let further = c .before .before .before .before .before in
+    let run = further .before in
     c .refuse2 .ensures
-    ∙ stops-too-deep (inside .before .loop .inv) (inside .loop-test .taken) (ap turnSays (sym (c .before .enum-told2 .given .1)) ∙ turned .ensures .0)
+    ∙ stops-too-deep (runs-on (run .before .loop .inv) (run .run .ensures)) (further .if1 .left)
+    (ap turnSays (sym (c .before .enum-told2 .given .1)) ∙ turned .ensures .0)
 
 add-i : tie.Need-add-i Inv-loop μ-loop
-add-i c = search needs
+add-i c = omega (arith, c .before .before .before .before .before .if1 .left)
 
 loop-less : tie.Need-loop-less Inv-loop μ-loop
-loop-less c = omega arith
+loop-less c =
+    let further = c .before .before .before .before .before in
+    omega (arith, further .if1 .left, further .before .run .ensures .further)
 
 loop-again : tie.Need-loop-again Inv-loop μ-loop
 loop-again c =
-    let known = c .before .next .given in
+    let known = c .before .after .given in
     let turned = c .before .before .before .turn in
-    let inside = c .before .before .before .before .before in
-    goes-on (inside .before .loop .inv) _ _ (inside .loop-test .taken) (ap turnSays (sym (known .1)) ∙ turned .ensures .0)
+    let further = c .before .before .before .before .before in
+    let run = further .before in
+    goes-on (runs-on (run .before .loop .inv) (run .run .ensures)) _ _ (further .if1 .left) (ap turnSays (sym (known .1)) ∙ turned .ensures .0)
     (subst GoodTurn (known .1) (turned .ensures .1))
-
-may-end-requires : tie.Need-may-end-requires Inv-loop μ-loop
-may-end-requires c κs = c .before .loop .inv .stands
-
-returns-3 : tie.Need-returns-3 Inv-loop μ-loop
-unfolding importSays
-returns-3 c =
-    let left = c .before .before in
-    ends-whole (left .before .loop .inv) (left .loop-test .left) (sym (c .before .may-end .ensures) ∙ c .if1 .taken)
-
-refuse-requires-3 : tie.Need-refuse-requires-3 Inv-loop μ-loop
-refuse-requires-3 c κs = search needs
-
-returns-4 : tie.Need-returns-4 Inv-loop μ-loop
-returns-4 c =
-    let left = c .before .before .before in
-    c .refuse3 .ensures ∙ ends-early (left .before .loop .inv) (left .loop-test .left) (sym (c .before .before .may-end .ensures) ∙ c .before .if1 .left)
 
 pub check-spec : {M : Type 1} → statement M
 check-spec =
@@ -104,21 +112,20 @@ check-spec =
     Inv-loop
     μ-loop
     loop-holds
+    run-requires
+    ended-requires
+    returns
     shared-slice-read-turn
     turn-requires
-    enum-known-next
+    enum-known-after
     cast-count
     add-count
     enum-told
     refuse-requires
-    returns
+    returns-2
     enum-told-2
     refuse-requires-2
-    returns-2
+    returns-3
     add-i
     loop-less
-    loop-again
-    may-end-requires
-    returns-3
-    refuse-requires-3
-    returns-4)
+    loop-again)
