@@ -20,3 +20,4 @@ pub mod CheckOn
 pub mod ImportSays
 pub mod NamesOn
 pub mod RunOn
+pub mod SaysOne
