@@ -21,3 +21,4 @@ pub mod ImportSays
 pub mod NamesOn
 pub mod RunOn
 pub mod SaysOne
+pub mod SpellsKey

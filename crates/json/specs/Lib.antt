@@ -8,3 +8,4 @@ pub mod Checking
 pub mod Importing
 pub mod Naming
 pub mod Running
+pub mod Spelling
