@@ -1,4 +1,17 @@
--- What is proved of the reader.
+-- What is proved of the reader, and how the parts hang together.
+--
+-- The grammar (`meaning`) is a set of relations of what is read and what is left; the reader is a table for each place, and a state.
+-- `Reads` (ToTheEnd) says that from a state the rest of a text is read to its end and lays down some events. Then:
+--   Complete: what the grammar has is read. Each production, before anything that is read from the state where it ends, is read from
+--     the state where it begins (Spaces, Numbers, Strings for its parts).
+--   Finishes: from every state some bytes are read to the end.
+--   Sound: what is read is the grammar's. For each state, Follows says by the grammar what completes a text from there; row by row
+--     of each table, what completes a text after a byte completes it, with the byte, before (Rows has the laws of tables).
+--   Beginnings: so a byte is taken exactly if a text can go on with it, whatever the limit of open containers.
+--   Judging, OneJudgement, ImportSays: so the reader's answer, its places too, is the grammar's, and the grammar has one.
+-- Of the program: TableSays compares its tables with the reader's; CodesSay, TopsSay and Held are what one byte by value needs; CountsRead
+-- says that counting is reading without the events; CheckOn and RunOn are the first pass, NamesOn the list of names; SpellsKey
+-- says that a key may be spelled from its first piece to its last.
 pub mod Rows
 pub mod ToTheEnd
 pub mod Spaces
