@@ -10,7 +10,7 @@
 --   Beginnings: so a byte is taken exactly if a text can go on with it, whatever the limit of open containers.
 --   Judging, OneJudgement, ImportSays: so the reader's answer, its places too, is the grammar's, and the grammar has one.
 -- Of the program: TableSays compares its tables with the reader's; CodesSay, TopsSay and Held are what one byte by value needs; CountsRead
--- says that counting is reading without the events; CheckOn and RunOn are the first pass, NamesOn the list of names; SpellsKey
+-- says that counting is reading without the events; CheckOn and RunOn are the first pass, BlockOn and BlockRuns its blocks, NamesOn the list of names; SpellsKey
 -- says that a key may be spelled from its first piece to its last.
 pub mod Rows
 pub mod ToTheEnd
@@ -35,3 +35,5 @@ pub mod NamesOn
 pub mod RunOn
 pub mod SaysOne
 pub mod SpellsKey
+pub mod BlockOn
+pub mod BlockRuns

@@ -9,3 +9,4 @@ pub mod Importing
 pub mod Naming
 pub mod Running
 pub mod Spelling
+pub mod Blocks

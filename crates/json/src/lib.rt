@@ -1,4 +1,5 @@
 // The import of a JSON text: the reader one byte at a time, and the loops over it.
+mod blocks;
 pub mod checking;
 pub mod naming;
 mod running;

@@ -1,6 +1,7 @@
 // Bytes that lead from place to place and do nothing else: nearly all bytes of a text. A loop of its own, with nothing in it but the
 // two tables.
 use crate::Ran;
+use crate::blocks;
 use crate::table;
 ghost use mathlib.Core.Path.{_≡_};
 ghost use mathlib.Core.List.{List};
@@ -8,8 +9,8 @@ ghost use Prim.Native.Nat.{_≤_, _<_};
 ghost use lib.ListN.{length};
 ghost use Rattle.json.specs.Running.{Runs};
 
-// From a place in the text on, up to the first byte that does more, or the end.
-pub fn run(text: &[u8], from: usize, place: u8) -> Ran
+// Byte by byte from a place in the text on, up to the first byte that does more, or the end.
+fn walk(text: &[u8], from: usize, place: u8) -> Ran
     requires { ⌜ from ≤ length (now text) ⌝ ∗ ⌜ place < 49 ⌝ }
     ensures { λ r. ⌜ Runs (now (text .entry)) from place (r .next) (r .place) ⌝ }
 {
@@ -24,4 +25,32 @@ pub fn run(text: &[u8], from: usize, place: u8) -> Ran
         next += 1;
     }
     Ran { next, place: here }
+}
+
+// The places before a character of a value and of a key.
+const VALUE_STRING: u8 = 14;
+
+const KEY_STRING: u8 = 27;
+
+// Within a string, past the blocks of plain characters.
+fn plain_run(text: &[u8], from: usize, place: u8) -> usize
+    requires { ⌜ from ≤ length (now text) ⌝ ∗ ⌜ place < 49 ⌝ }
+    ensures { λ r. ⌜ Runs (now (text .entry)) from place r place ⌝ }
+{
+    if place == VALUE_STRING {
+        return blocks::past(text, from);
+    }
+    if place == KEY_STRING {
+        return blocks::past(text, from);
+    }
+    from
+}
+
+// The same, by blocks where it can.
+pub fn run(text: &[u8], from: usize, place: u8) -> Ran
+    requires { ⌜ from ≤ length (now text) ⌝ ∗ ⌜ place < 49 ⌝ }
+    ensures { λ r. ⌜ Runs (now (text .entry)) from place (r .next) (r .place) ⌝ }
+{
+    let next = plain_run(text, from, place);
+    walk(text, next, place)
 }
