@@ -63,6 +63,12 @@ RULE_C = rule(3, 0, NONE, 1,
               [[NONE, NONE, 1], [NONE] * 3, [NONE] * 3],
               [OFF_SCHEMA, REJECT, ACCEPT])
 
+# No level is ever settled, so a move that is missing is missed by skipping too.
+GAPS = rule(2, 0, 0, 2,
+            [[1, NONE], [0, 1]],
+            [[1, NONE], [0, NONE]],
+            [REJECT, ACCEPT])
+
 LARGEST_RULE = rule(64, 0, 0, 256,
                     [[(q + a) % 64 for a in range(256)] for q in range(64)],
                     [[(u + p) % 64 for p in range(64)] for u in range(64)],
@@ -171,6 +177,10 @@ def document_cases():
     for name, numbers in [("c-letters", [2, 2]), ("c-no-tree-start", [0]),
                           ("c-tree-in-skipped-part", [2, 2, 0, 2, 1])]:
         yield name, RULE_C + events(numbers)
+    for name, numbers in [("gaps-none-met", [0, 1]), ("gaps-no-letter-move", [2, 3, 2, 3]),
+                          ("gaps-no-tree-move", [0, 2, 1]),
+                          ("gaps-no-tree-move-outside", [0, 0, 1, 1])]:
+        yield name, GAPS + events(numbers)
 
 
 def long_cases():

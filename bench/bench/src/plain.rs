@@ -167,7 +167,7 @@ pub fn feed(
                 _ => table.letter_move(state, event as usize - 2),
             };
             if to == NONE {
-                outcome = stop(11);
+                outcome = stop(missing(event));
                 break;
             }
             match event {
@@ -185,6 +185,15 @@ pub fn feed(
     }
     let reading = Reading { state, depth, skip, taken, looks };
     Fed { took: (taken - before) as usize, reading, outcome }
+}
+
+/// The number of a missing move, by the event that wants it.
+fn missing(event: u16) -> u8 {
+    match event {
+        OPEN => 17,
+        CLOSE => 18,
+        _ => 11,
+    }
 }
 
 fn is_reading(table: &Table, book: &[u64], reading: &Reading, store: &[Level]) -> bool {
@@ -232,7 +241,7 @@ pub fn read_in_full(file: &[u8], store: &mut [Level], events: &[u16]) -> Fed {
             _ => table.letter_move(state, event as usize - 2),
         };
         if to == NONE {
-            return refused(11);
+            return refused(missing(event));
         }
         match event {
             OPEN => {

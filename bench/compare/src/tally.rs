@@ -8,10 +8,10 @@ pub type Can = &'static [u64];
 pub const RULE: Can = &[1, 2, 3, 4, 5];
 pub const WRITER: Can = &[3, 4, 14];
 pub const MAKER: Can = &[1, 2, 3, 4, 5, 6];
-pub const FEED: Can = &[1, 2, 3, 4, 5, 6, 7, 8, 9, 10, 11, 13, 16];
+pub const FEED: Can = &[1, 2, 3, 4, 5, 6, 7, 8, 9, 10, 11, 13, 16, 17, 18];
 pub const FINISH: Can = &[1, 2, 3, 4, 5, 6, 12, 13];
-pub const WHOLE: Can = &[1, 2, 3, 4, 5, 6, 7, 8, 10, 11, 12];
-pub const LINE: Can = &[7, 8, 10, 11, 12];
+pub const WHOLE: Can = &[1, 2, 3, 4, 5, 6, 7, 8, 10, 11, 12, 17, 18];
+pub const LINE: Can = &[7, 8, 10, 11, 12, 17, 18];
 
 /// Why some numbers are not brought out.
 const NEVER: &str = "\
@@ -23,7 +23,7 @@ const NEVER: &str = "\
 /// From so many inputs on, every number that can be given must have been.
 const ENOUGH: u64 = 10_000;
 
-const LAST_NUMBER: u64 = 16;
+const LAST_NUMBER: u64 = 18;
 
 struct Row {
     name: &'static str,

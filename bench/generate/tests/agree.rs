@@ -66,7 +66,7 @@ fn the_check_program_in_three_ways() {
         assert!(number(&format!("skip {kind}")) > 300, "{kind}");
         assert!(number(&format!("full {kind}")) > 300, "{kind}");
     }
-    for refusal in [7, 8, 10, 11, 12] {
+    for refusal in [7, 8, 10, 11, 12, 17, 18] {
         assert!(number(&format!("skip refused {refusal}")) > 10, "{refusal}");
         assert!(number(&format!("full refused {refusal}")) > 10, "{refusal}");
     }
@@ -199,7 +199,7 @@ fn any_call_in_two_ways_and_in_parts() {
         }
     }
     println!("{seen:?}");
-    for number in [0, 1, 3, 4, 6, 7, 8, 9, 10, 11, 13, 16] {
+    for number in [0, 1, 3, 4, 6, 7, 8, 9, 10, 11, 13, 16, 17, 18] {
         assert!(seen.get(&number).copied().unwrap_or(0) > 20, "number {number}: {seen:?}");
     }
 }

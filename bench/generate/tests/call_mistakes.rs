@@ -30,6 +30,8 @@ enum Mistake {
     CeilingOneLookLate,
     CeilingForEachFeed,
     CeilingWhileSkipping,
+    MissingStartBeforeTheStore,
+    ElevenForEveryMissingMove,
     StoreFullOneLevelEarly,
     RecordWrittenThoughRefused,
     RecordWrittenWhileSkipping,
@@ -47,7 +49,7 @@ enum Mistake {
 
 use Mistake::*;
 
-const ALL: [Mistake; 30] = [
+const ALL: [Mistake; 32] = [
     NotAReadingBeforeTheBook,
     BookOfNWordsIsEnough,
     StateNotTested,
@@ -66,6 +68,8 @@ const ALL: [Mistake; 30] = [
     CeilingOneLookLate,
     CeilingForEachFeed,
     CeilingWhileSkipping,
+    MissingStartBeforeTheStore,
+    ElevenForEveryMissingMove,
     StoreFullOneLevelEarly,
     RecordWrittenThoughRefused,
     RecordWrittenWhileSkipping,
@@ -212,6 +216,14 @@ fn take(
             .flatten(),
         _ => rule.letter_moves.get(now.state as usize).and_then(|row| row[event as usize - 2]),
     };
+    let missing = match event {
+        0 if mistake != ElevenForEveryMissingMove => 17,
+        1 if mistake != ElevenForEveryMissingMove => 18,
+        _ => 11,
+    };
+    if mistake == MissingStartBeforeTheStore && event == 0 && target.is_none() {
+        return Err(missing);
+    }
     let room = store.len() - (mistake == StoreFullOneLevelEarly && !store.is_empty()) as usize;
     if mistake == CeilingBeforeTheStore && out_of_looks {
         return Err(9);
@@ -223,12 +235,12 @@ fn take(
         store[at] = Level { state: now.state, place };
     }
     if mistake == CeilingAfterTheMove && target.is_none() {
-        return Err(11);
+        return Err(missing);
     }
     if out_of_looks {
         return Err(9);
     }
-    let target = target.ok_or(11)?;
+    let target = target.ok_or(missing)?;
     match event {
         0 => {
             let place = match mistake {

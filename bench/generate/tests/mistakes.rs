@@ -36,6 +36,11 @@ enum Mistake {
     LevelsStoredWhileSkipping,
     MoveSoughtThoughHeld,
     LookCountedThoughHeld,
+    // Where a move is missing.
+    ElevenForAMissingStart,
+    ElevenForAMissingTreeMove,
+    StartAndTreeMoveExchanged,
+    StartSoughtWhileSkipping,
     // At the end.
     OpeningOfTheOutermostLevel,
     EventsTakenAsPlace,
@@ -43,7 +48,7 @@ enum Mistake {
 
 use Mistake::*;
 
-const ALL: [Mistake; 24] = [
+const ALL: [Mistake; 28] = [
     LengthBeforeKind,
     BodyCutBeforeLength,
     OddLengthAfterTheBody,
@@ -66,6 +71,10 @@ const ALL: [Mistake; 24] = [
     LevelsStoredWhileSkipping,
     MoveSoughtThoughHeld,
     LookCountedThoughHeld,
+    ElevenForAMissingStart,
+    ElevenForAMissingTreeMove,
+    StartAndTreeMoveExchanged,
+    StartSoughtWhileSkipping,
     OpeningOfTheOutermostLevel,
     EventsTakenAsPlace,
 ];
@@ -217,6 +226,9 @@ fn read(rule: &Rule, book: &[u64], events: &[u16], mistake: Mistake) -> String {
             if mistake == LevelsStoredWhileSkipping && levels.len() + skip >= 1024 {
                 return refused(8);
             }
+            if mistake == StartSoughtWhileSkipping && rule.tree_start.is_none() {
+                return refused(17);
+            }
             skip += 1;
             continue;
         }
@@ -244,7 +256,16 @@ fn read(rule: &Rule, book: &[u64], events: &[u16], mistake: Mistake) -> String {
             1 => rule.tree_moves[upper.unwrap()][state],
             _ => rule.letter_moves[state][event as usize - 2],
         };
-        let Some(target) = target else { return refused(11) };
+        let Some(target) = target else {
+            return refused(match (event, mistake) {
+                (0, ElevenForAMissingStart) | (1, ElevenForAMissingTreeMove) => 11,
+                (0, StartAndTreeMoveExchanged) => 18,
+                (1, StartAndTreeMoveExchanged) => 17,
+                (0, _) => 17,
+                (1, _) => 18,
+                _ => 11,
+            });
+        };
         match event {
             0 => {
                 levels.push((state, place));

@@ -189,12 +189,13 @@ fn evaluate(
     store: &mut [Level],
     ceiling: u32,
 ) -> Option<(u8, u32)> {
-    // One table look.
-    let mut look = |found: Option<usize>, place: u32| -> Result<u8, (u8, u32)> {
+    // One table look. What is missing where nothing is found follows from the part
+    // of the hedge that is looked at.
+    let mut look = |found: Option<usize>, missing: u8, place: u32| -> Result<u8, (u8, u32)> {
         if *looks >= ceiling {
             return Err((numbers::CEILING, place));
         }
-        let target = found.ok_or((numbers::NO_MOVE, place))?;
+        let target = found.ok_or((missing, place))?;
         *looks += 1;
         Ok(target as u8)
     };
@@ -214,7 +215,8 @@ fn evaluate(
             let state = if in_hold(book, u, frame.state) {
                 u
             } else {
-                match look(rule.tree_moves[u as usize][frame.state as usize], place) {
+                let found = rule.tree_moves[u as usize][frame.state as usize];
+                match look(found, numbers::NO_TREE_MOVE, place) {
                     Ok(state) => state,
                     Err(refused) => return Some(refused),
                 }
@@ -226,7 +228,8 @@ fn evaluate(
 
         match &hedge.nodes[inner] {
             Node::Letter { letter, place } => {
-                match look(rule.letter_moves[frame.state as usize][*letter], *place) {
+                let found = rule.letter_moves[frame.state as usize][*letter];
+                match look(found, numbers::NO_LETTER_MOVE, *place) {
                     Ok(state) => frame.state = state,
                     Err(refused) => return Some(refused),
                 }
@@ -236,7 +239,7 @@ fn evaluate(
                 if depth >= store.len() {
                     return Some((numbers::STORE_FULL, below.opened));
                 }
-                let state = match look(rule.tree_start, below.opened) {
+                let state = match look(rule.tree_start, numbers::NO_TREE_START, below.opened) {
                     Ok(state) => state,
                     Err(refused) => return Some(refused),
                 };

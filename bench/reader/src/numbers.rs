@@ -1,4 +1,5 @@
-//! The numbers of "Calls and numbers", and a number with its place.
+//! The numbers of "Calls and numbers" and of the requests, and a number with its
+//! place.
 
 use std::fmt;
 
@@ -22,8 +23,8 @@ pub const STORE_FULL: u8 = 8;
 pub const CEILING: u8 = 9;
 /// Event k+2 or more; place: the event.
 pub const UNKNOWN_EVENT: u8 = 10;
-/// No move; place: the event.
-pub const NO_MOVE: u8 = 11;
+/// No letter move; place: the event.
+pub const NO_LETTER_MOVE: u8 = 11;
 /// Finish with a level or skip depth open; place: the opening in the innermost
 /// stored record, or the events taken if none is stored.
 pub const OPEN_AT_FINISH: u8 = 12;
@@ -36,6 +37,10 @@ pub const OUTPUT_SHORT: u8 = 14;
 pub const ROUNDS: u8 = 15;
 /// 4,294,967,295 events already taken; place: the event.
 pub const EVENTS_USED_UP: u8 = 16;
+/// No tree start; place: the event.
+pub const NO_TREE_START: u8 = 17;
+/// No tree move; place: the event.
+pub const NO_TREE_MOVE: u8 = 18;
 
 /// A number with its place.
 #[derive(Clone, Copy, Debug, PartialEq, Eq, Hash)]

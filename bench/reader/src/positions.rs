@@ -20,9 +20,26 @@ pub struct FullRun<'a> {
     /// The place of the open of the level which the event at each place stands
     /// on; none on the top. (A close stands on the level it ends.)
     on: Vec<Option<usize>>,
-    /// The number that ends it early (10, 7 or 11), given at the last place of
-    /// the table.
-    stop: Option<u8>,
+    /// What ends it early, at the last place of the table.
+    stop: Option<Stop>,
+}
+
+/// What ends a full reading that wants neither levels nor looks.
+#[derive(Clone, Copy, PartialEq)]
+enum Stop {
+    /// An event that no reading takes, passed over or not: 10 or 7.
+    Never(u8),
+    /// A move that is not there.
+    NoMove,
+}
+
+/// The number of a missing move, by the event that wants it.
+fn missing(event: u16) -> u8 {
+    match event {
+        OPEN => numbers::NO_TREE_START,
+        CLOSE => numbers::NO_TREE_MOVE,
+        _ => numbers::NO_LETTER_MOVE,
+    }
 }
 
 impl<'a> FullRun<'a> {
@@ -37,17 +54,17 @@ impl<'a> FullRun<'a> {
                 (OPEN, _) => (rule.tree_start, Some(place)),
                 (CLOSE, Some(open)) => (rule.tree_moves[before[open]][state], on[open]),
                 (CLOSE, None) => {
-                    stop = Some(numbers::CLOSE_AT_TOP);
+                    stop = Some(Stop::Never(numbers::CLOSE_AT_TOP));
                     break;
                 }
                 _ if event as usize >= rule.k + 2 => {
-                    stop = Some(numbers::UNKNOWN_EVENT);
+                    stop = Some(Stop::Never(numbers::UNKNOWN_EVENT));
                     break;
                 }
                 _ => (rule.letter_moves[state][(event - FIRST_LETTER) as usize], level),
             };
             let Some(target) = target else {
-                stop = Some(numbers::NO_MOVE);
+                stop = Some(Stop::NoMove);
                 break;
             };
             before.push(target);
@@ -135,11 +152,10 @@ impl<'a> FullRun<'a> {
             innermost.push(record);
 
             let last = place + 1 == self.before.len();
-            if last && self.stop.is_none() {
-                break;
-            }
-            if last && self.stop != Some(numbers::NO_MOVE) {
-                return refused(self.stop?, place);
+            match self.stop {
+                None if last => break,
+                Some(Stop::Never(number)) if last => return refused(number, place),
+                _ => {}
             }
             if !looked_at[place] {
                 if last {
@@ -154,7 +170,7 @@ impl<'a> FullRun<'a> {
                 return refused(numbers::CEILING, place);
             }
             if last {
-                return refused(numbers::NO_MOVE, place);
+                return refused(missing(self.events[place]), place);
             }
             looks += 1;
         }

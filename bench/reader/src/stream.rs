@@ -32,7 +32,8 @@ pub fn feed(
     Fed { took: events.len(), reading: now, outcome: Outcome::AllTaken }
 }
 
-/// One event. In turn: 16, 10, 7, then, if it needs a look, 8, 9, 11.
+/// One event. In turn: 16, 10, 7, then, if it needs a look, 8, 9, and then the
+/// missing move: 11, 17 or 18.
 fn step(
     rule: &Rule,
     book: &[u64],
@@ -82,15 +83,18 @@ fn step(
     if now.looks >= ceiling {
         return Err(numbers::CEILING);
     }
-    let target = match (event, upper) {
-        (OPEN, _) => rule.tree_start,
-        (CLOSE, Some(u)) => rule.tree_moves[u as usize][now.state as usize],
+    let (target, missing) = match (event, upper) {
+        (OPEN, _) => (rule.tree_start, numbers::NO_TREE_START),
+        (CLOSE, Some(u)) => {
+            (rule.tree_moves[u as usize][now.state as usize], numbers::NO_TREE_MOVE)
+        }
         (CLOSE, None) => unreachable!("a close at top was refused above"),
-        _ => rule.letter_moves[now.state as usize][(event - FIRST_LETTER) as usize],
+        _ => {
+            let letter = (event - FIRST_LETTER) as usize;
+            (rule.letter_moves[now.state as usize][letter], numbers::NO_LETTER_MOVE)
+        }
     };
-    let Some(target) = target else {
-        return Err(numbers::NO_MOVE);
-    };
+    let target = target.ok_or(missing)?;
     if event == OPEN {
         store[depth] = Level { state: now.state, place: now.taken };
         after.depth += 1;

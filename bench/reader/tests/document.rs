@@ -86,7 +86,22 @@ fn cases_a() {
 fn cases_b() {
     let rule_b = rule_b().to_file();
     case(&rule_b, &[0, 2, 1], "accept 0 3 1", "accept 0 3 3");
-    case(&rule_b, &[0, 1], "accept 0 2 1", "refused 11 1");
+    case(&rule_b, &[0, 1], "accept 0 2 1", "refused 18 1");
+}
+
+/// A missing move says which: 11 letter move, 17 tree start, 18 tree move.
+#[test]
+fn which_move_is_missing() {
+    // No tree start: at the open, and not on a level that is settled.
+    let rule_c = rule_c().to_file();
+    case(&rule_c, &[0], "refused 17 0", "refused 17 0");
+    case(&rule_c, &[2, 0, 1], "refused 17 1", "refused 17 1");
+    case(&rule_c, &[2, 2, 0, 1], "accept 2 4 2", "refused 17 2");
+    // No tree move: at the close, and not where it is held.
+    let rule_b = rule_b().to_file();
+    case(&rule_b, &[2, 0, 1], "reject 2 3 1", "refused 18 2");
+    // The letter moves of rule A.
+    case(&RULE_A, &[0, 3, 1, 3], "accept 2 4 3", "refused 11 3");
 }
 
 #[test]
@@ -147,4 +162,6 @@ fn the_whole_document_call() {
     assert_eq!(end, End::Refused(Refusal::new(8, 1)));
     let end = whole(&RULE_A[..46], &mut book, &mut store, &[2, 0]);
     assert_eq!(end, End::Refused(Refusal::new(1, 46)));
+    let end = whole(&rule_c().to_file(), &mut book, &mut store, &[2, 0]);
+    assert_eq!(end, End::Refused(Refusal::new(17, 1)));
 }

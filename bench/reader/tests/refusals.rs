@@ -1,8 +1,9 @@
-//! Every number of "Calls and numbers", with its place and in its order.
+//! Every number of "Calls and numbers" and those of a missing move, with its place and
+//! in its order.
 
 mod common;
 
-use common::{input, RULE_A};
+use common::{input, rule_c, RULE_A};
 use reader::stream::feed;
 use reader::*;
 
@@ -200,7 +201,7 @@ fn each_event_in_turn() {
     assert_eq!(one_event(&zeros, at_top, 0, 4, 0), refused(10, u32::MAX as u64 - 1));
     assert_eq!(one_event(&zeros, at_top, 0, 65535, 0), refused(10, u32::MAX as u64 - 1));
     assert_eq!(one_event(&zeros, at_top, 0, 1, 0), refused(7, u32::MAX as u64 - 1));
-    // 8 before 9, 9 before 11.
+    // 8 before 9, 9 before a missing move.
     assert_eq!(one_event(&zeros, at_top, 0, 0, 0), refused(8, u32::MAX as u64 - 1));
     assert_eq!(one_event(&zeros, at_top, 1, 0, 0), refused(9, u32::MAX as u64 - 1));
     assert_eq!(one_event(&zeros, at_top, 1, 3, 0), refused(9, u32::MAX as u64 - 1));
@@ -210,7 +211,7 @@ fn each_event_in_turn() {
     let many_looks = Reading { looks: 7, ..at_top };
     assert_eq!(one_event(&zeros, many_looks, 1, 2, 6), refused(9, u32::MAX as u64 - 1));
     assert_eq!(one_event(&zeros, many_looks, 1, 2, 8), Outcome::AllTaken);
-    // On a settled level none of 8, 9, 11 is given, but 10 is.
+    // On a settled level neither 8 nor 9 nor a missing move is given, but 10 is.
     let book = [6, 4, 7, 7];
     assert_eq!(one_event(&book, at_top, 0, 0, 0), Outcome::AllTaken);
     assert_eq!(one_event(&book, at_top, 0, 3, 0), Outcome::AllTaken);
@@ -218,6 +219,35 @@ fn each_event_in_turn() {
     assert_eq!(one_event(&book, at_top, 0, 1, 0), refused(7, u32::MAX as u64 - 1));
     let skipping = Reading { skip: 1, ..at_top };
     assert_eq!(one_event(&book, skipping, 0, 1, 0), Outcome::AllTaken);
+}
+
+/// 8 and 9 come before a missing move, whichever it is.
+#[test]
+fn a_missing_move_comes_last() {
+    // Rule C has no tree start, no tree move with lower state 0, and here no letter
+    // move either.
+    let rule = Rule { letter_moves: vec![vec![None]; 3], ..rule_c() }.to_file();
+    let outside = Reading { state: 0, depth: 0, skip: 0, taken: 5, looks: 3 };
+    let inside = Reading { depth: 1, ..outside };
+    for (reading, levels, event, ceiling, number) in [
+        (outside, 0, 0, 9, 8),
+        (outside, 0, 0, 3, 8),
+        (outside, 1, 0, 3, 9),
+        (outside, 1, 0, 4, 17),
+        (inside, 1, 0, 4, 8),
+        (inside, 1, 1, 3, 9),
+        (inside, 1, 1, 4, 18),
+        (inside, 1, 2, 3, 9),
+        (inside, 1, 2, 4, 11),
+    ] {
+        for feed in [feed as calls::Feed, hedge::feed] {
+            let mut store = vec![Level::default(); levels];
+            let fed = feed(&rule, &[0; 4], reading, &mut store, &[event], ceiling);
+            let outcome = Outcome::Refused(Refusal::new(number, 5));
+            assert_eq!(fed, Fed { took: 0, reading, outcome }, "event {event}");
+            assert_eq!(store, vec![Level::default(); levels]);
+        }
+    }
 }
 
 #[test]

@@ -6,8 +6,10 @@ use Prim.Native.Nat.{ℕ, _<_}
 use lib.ListN.{getD}
 use Rattle.meaning.specs.Answers.{_<?_}
 use Rattle.meaning.specs.RuleFile as format
-use Rattle.meaning.specs.RuleFile.{letterMove, treeMove}
+use Rattle.meaning.specs.RuleFile.{none, letterMove, treeMove}
 use Rattle.meaning.specs.SkipBook.{anyBelow, goesTo, canEndTree, noneOr, oneMove, reachedIn, holdMarks, wordOf, bit}
+use Rattle.rule.specs.declared.tables.Move.{Move}
+use Rattle.rule.specs.declared.tables.Move.the-variants as move
 
 -- a word of 64 bits stands for the states that pass a test
 unfoldable pub StandsFor : ℕ → (ℕ → Bool) → Type 0
@@ -16,6 +18,11 @@ StandsFor word test = (p : ℕ) → p < 64 → bit word p ≡ test p
 -- the states of a set, and those that a table of sets has for a member
 unfoldable pub joined : List ℕ → ℕ → ℕ → Bool
 joined table set p = bit set p || anyBelow 64 (λ m. bit set m && bit (getD table m 0) p)
+
+-- the state that a move leads to, or none
+unfoldable pub stateOrNone : Move → ℕ
+stateOrNone (move.To state) = state
+stateOrNone (move.NoneIn table) = none
 
 -- the states one letter move away, and those one tree move away
 unfoldable pub byLetters : format.Rule → ℕ → ℕ → Bool

@@ -3,20 +3,33 @@ use crate::sets::no_sets;
 use crate::sets::only;
 use crate::sets::with;
 use rule::Rule;
+use rule::tables::Move;
 ghost use mathlib.Core.Path.{_≡_};
 ghost use mathlib.Core.Bool.{not};
 ghost use Prim.Native.Nat.{_<_};
-ghost use Rattle.meaning.specs.RuleFile.{asMove, ruleOf};
+ghost use Rattle.meaning.specs.RuleFile.{ruleOf};
 ghost use Rattle.meaning.specs.SkipBook.{goesTo, noneOr, oneMove};
 ghost use Rattle.rule.specs.Says.{RuleOf};
-ghost use Rattle.book.specs.Sets.{StandsFor, Moves, byLetters, byTrees, changing};
+ghost use Rattle.rule.specs.Tables.{moveSays};
+ghost use Rattle.book.specs.Sets.{StandsFor, Moves, stateOrNone, byLetters, byTrees, changing};
+
+// The state that a move leads to, or none. By way of it a look and what is made of it compile to one read and one test.
+fn state_or_none(found: Move) -> u8
+    ensures { λ r. ⌜ r ≡ stateOrNone found ⌝ }
+{
+    match found {
+        Move::To(state) => state,
+        Move::NoneIn(_) => Rule::NONE,
+    }
+}
 
 // The state that a move leads to, as a set: empty where there is none.
-fn target(byte: u8) -> u64
-    ensures { λ r. ⌜ StandsFor r (λ p. goesTo p (asMove byte)) ⌝ }
+fn target(found: Move) -> u64
+    ensures { λ r. ⌜ StandsFor r (λ p. goesTo p (moveSays found)) ⌝ }
 {
-    if byte < Rule::MOST_STATES {
-        only(byte)
+    let state = state_or_none(found);
+    if state < Rule::MOST_STATES {
+        only(state)
     } else {
         0
     }
@@ -77,10 +90,13 @@ pub fn all_moves(file: &[u8], rule: Rule) -> [u64; 64]
 }
 
 // Whether a tree move leads from its upper state to another one.
-fn changed(byte: u8, upper: u8) -> bool
-    ensures { λ r. ⌜ r ≡ not (noneOr upper (asMove byte)) ⌝ }
+fn changed(found: Move, upper: u8) -> bool
+    ensures { λ r. ⌜ r ≡ not (noneOr upper (moveSays found)) ⌝ }
 {
-    byte != Rule::NONE && byte != upper
+    match found {
+        Move::To(state) => state != upper,
+        Move::NoneIn(_) => false,
+    }
 }
 
 // The lower states whose tree move leads from an upper state to another one.
@@ -92,8 +108,8 @@ pub fn changes(file: &[u8], rule: Rule, upper: u8) -> u64
     let mut set: u64 = 0;
     let mut lower: u8 = 0;
     while lower < rule.states {
-        let byte = rule::tables::tree_move(file, rule, upper, lower);
-        set = with(set, only(lower), changed(byte, upper));
+        let found = rule::tables::tree_move(file, rule, upper, lower);
+        set = with(set, only(lower), changed(found, upper));
         lower += 1;
     }
     set

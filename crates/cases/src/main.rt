@@ -1,9 +1,10 @@
-// The cases of document 01 that are not proved: each call is made, and what it answers is printed. The expected lines stand
-// in the file stdout.
+// The cases of document 01 that are not proved, and those of the requests: each call is made, and what it answers is printed.
+// The expected lines stand in the file stdout.
 mod documents;
 mod files;
 mod largest;
 mod lines;
+mod missing;
 mod readings;
 mod rules;
 mod stores;
@@ -15,5 +16,6 @@ fn main() {
     largest::case();
     documents::cases();
     documents::full_case();
+    missing::moves();
     readings::refusals();
 }

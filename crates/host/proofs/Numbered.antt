@@ -111,8 +111,8 @@ fresh-numbered file = gives _ _ (rule-numbered file) (λ R. isGiven)
 looks : (t : Table) (place : ℕ) (m : Move) (next : ℕ → Turn) → Numbered (look t place m next)
 unfolding look noMoveNumber
 looks letterTable place noMove next = isRefused {number = 11} (omega arith)
-looks startTable place noMove next = isRefused {number = 11} (omega arith)
-looks treeTable place noMove next = isRefused {number = 11} (omega arith)
+looks startTable place noMove next = isRefused {number = 17} (omega arith)
+looks treeTable place noMove next = isRefused {number = 18} (omega arith)
 looks t place (to q) next = isGiven
 
 full : (R : format.Rule) (room ceiling : ℕ) (r : Reading) (top : Level) (e : Event) → Numbered (fullTurn R room ceiling r top e)

@@ -3,6 +3,7 @@ pub mod Answered
 pub mod Bools
 pub mod Truths
 pub mod Events
+pub mod Tables
 pub mod FeedLaws
 pub mod FeedKeeps
 pub mod Following

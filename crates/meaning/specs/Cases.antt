@@ -114,9 +114,9 @@ theCases =
     ∷ bothEnd ruleA (0 ∷ 3 ∷ 1 ∷ 3 ∷ []) (accept 2 3) (refused 11 3)
     ∷ bothEnd ruleA (3 ∷ 0 ∷ 2 ∷ 1 ∷ []) (offSchema 1 1) (offSchema 1 4)
     ∷ bothEnd ruleA (0 ∷ 0 ∷ 3 ∷ 1 ∷ 1 ∷ []) (reject 0 4) (reject 0 5)
-    -- B1 and B2
+    -- B1 and B2. Where full reading finds no move inside a skipped part, it says which: a letter move in A4, a tree move in B2
     ∷ bothEnd ruleB (0 ∷ 2 ∷ 1 ∷ []) (accept 0 1) (accept 0 3)
-    ∷ bothEnd ruleB (0 ∷ 1 ∷ []) (accept 0 1) (refused 11 1)
+    ∷ bothEnd ruleB (0 ∷ 1 ∷ []) (accept 0 1) (refused 18 1)
     -- a close at the top after a tree, a letter that the rule does not know, and a skipped tree left open
     ∷ skippingEnd ruleA (0 ∷ 3 ∷ 1 ∷ 1 ∷ []) (refused 7 3)
     ∷ skippingEnd ruleA (3 ∷ 4 ∷ []) (refused 10 1)

@@ -41,11 +41,12 @@ looked r state depth = record { state = state; depth = depth; skip = r .skip; ta
 pub data Table : Type 0 where
   letterTable startTable treeTable : Table
 
--- the number of the refusal where a table has no move
+-- The number says which move is missing: 11 where there is no letter move, 17 where there is no tree start, 18 where there is
+-- no tree move. Each event: 16, 10, 7, then, if it needs a look, 8, 9, and then the number of the table that has no move.
 unfoldable pub noMoveNumber : Table → ℕ
 noMoveNumber letterTable = 11
-noMoveNumber startTable = 11
-noMoveNumber treeTable = 11
+noMoveNumber startTable = 17
+noMoveNumber treeTable = 18
 
 -- What one event leads to, apart from the reading after it: the open levels stay, a record is stored for one more level, or
 -- the innermost level ends.

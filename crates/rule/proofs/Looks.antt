@@ -1,16 +1,19 @@
 -- The bytes that the tables are read at are the moves and the classes of an accepted file's rule: a table is a part of the
 -- file, and an entry of a part stands in the file at the part's place and on.
 use mathlib.Core.Path.{_≡_, refl, sym, ap, _∙_}
+use mathlib.Core.Bool.{Bool, true, false}
 use mathlib.Core.List.{List, [], _∷_}
 use Prim.Native.Nat.{ℕ, zero, suc, _+_, _*_, _≤_, _<_}
 use native.Mathlib.Nat.{not-suc-le-zero, le-of-suc-le-suc, mul-le-mul-right, suc-mul}
 use native.Mathlib.Omega.{arith}
 use lib.ListN.{length, getD}
 use lib.Seq.{getD-take, getD-drop}
-use Rattle.meaning.specs.Answers.{given}
-use Rattle.meaning.specs.RuleFile.{Rule, none, part, checkRule, asMove, letterMove, treeMove, classOf}
+use Rattle.meaning.specs.Answers.{given, if_then_else_, _=?_}
+use Rattle.meaning.specs.RuleFile.{Rule, to, noMove, none, part, checkRule, asMove, letterMove, treeMove, classOf}
 use Rattle.meaning.proofs.rulefile.Accepted.{accepted-is-rule, letter-part, tree-part, class-part}
-use Rattle.rule.specs.Tables.{letterByte, treeByte, classByte}
+use Rattle.rule.specs.declared.tables.Table.{Table}
+use Rattle.rule.specs.declared.tables.Move.the-variants.{To, NoneIn}
+use Rattle.rule.specs.Tables.{letterByte, treeByte, classByte, moveSays, moveIn}
 
 -- inside a list what would stand past its end does not matter
 pub getD-inside : {A : Type 0} (l : List A) (i : ℕ) (d e : A) → i < length l → getD l i d ≡ getD l i e
@@ -27,6 +30,15 @@ pub entry-below : (row column rows columns : ℕ) → row < rows → column < co
 entry-below row column rows columns h g =
     let below : suc row * columns ≤ rows * columns = mul-le-mul-right columns h in
     omega (arith, below, suc-mul row columns)
+
+-- what is found at a byte is the move that the byte is
+pub found-is : (table : Table) (byte : ℕ) → moveSays (moveIn table byte) ≡ asMove byte
+unfolding moveIn moveSays asMove if_then_else_
+found-is table byte = go (byte =? none)
+  where
+    go : (isNone : Bool) → moveSays (if isNone then (NoneIn table) else (To byte)) ≡ if isNone then noMove else (to byte)
+    go true = refl
+    go false = refl
 
 module _ (file : List ℕ) {R : Rule} (accepted : checkRule file ≡ given R) where
   pub letter-look : (q a : ℕ) → q < R .states → a < R .letters

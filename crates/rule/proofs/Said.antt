@@ -16,6 +16,9 @@ use Rattle.rule.specs.declared.Checked.{Checked}
 use Rattle.rule.specs.declared.Checked.the-variants as checked
 use Rattle.rule.specs.declared.Written.{Written}
 use Rattle.rule.specs.declared.Written.the-variants as written
+use Rattle.rule.specs.declared.tables.Table.{Table}
+use Rattle.rule.specs.declared.tables.Table.the-variants as table
+use Rattle.rule.specs.Tables.{tableSays}
 use Rattle.rule.specs.Says.{numbersOf, checkedSays, checkAnswer, writtenSays}
 
 -- a rule that was given is the accepted file's
@@ -55,3 +58,16 @@ written-says (written.Bytes a) (written.Bytes b) e = cc
 written-says (written.Bytes a) (written.Refused b) e = cc
 written-says (written.Refused a) (written.Bytes b) e = cc
 written-says (written.Refused a) (written.Refused b) e = ap written.Refused (refusal-says a b e)
+
+-- two tables of the code that are one table of the definition are the same
+pub table-says : (a b : Table) → tableSays a ≡ tableSays b → a ≡ b
+unfolding tableSays
+table-says table.LetterMoves table.LetterMoves e = refl
+table-says table.LetterMoves table.TreeStart e = cc
+table-says table.LetterMoves table.TreeMoves e = cc
+table-says table.TreeStart table.LetterMoves e = cc
+table-says table.TreeStart table.TreeStart e = refl
+table-says table.TreeStart table.TreeMoves e = cc
+table-says table.TreeMoves table.LetterMoves e = cc
+table-says table.TreeMoves table.TreeStart e = cc
+table-says table.TreeMoves table.TreeMoves e = refl

@@ -1,6 +1,6 @@
 -- Laws of one event, which the proofs of the functions cite: what a look in a table gives, which event a number is, and that
 -- the numbers the code holds are those of the rule.
-use mathlib.Core.Path.{_≡_, refl, ap, _∙_}
+use mathlib.Core.Path.{_≡_, refl, sym, ap, _∙_}
 use mathlib.Core.Bool.{Bool, true, false, _||_}
 use mathlib.Core.List.{List}
 use Prim.Native.Nat.{ℕ, zero, suc, _+_, _-_, _≤_, _<_}
@@ -9,7 +9,7 @@ use borrow.Author.Tests.{ne-eqb, leb-true, lt-leb, ltb-true}
 use lib.ListN.{length}
 use Rattle.meaning.specs.Answers.{Answer, given, refused, refuse_at_when_otherwise_, if_then_else_, _≤?_, _=?_}
 use Rattle.meaning.specs.RuleFile.{none, mostStates, mostLetters, classCount, asMove, classOf, isClass, isStates, isLetters, ruleOf, to, noMove, treeStartMove}
-use Rattle.meaning.specs.FullReading.{opens, closes, letter, eventOf, mostEvents, knownEvent, Table, letterTable, startTable, treeTable, noMoveNumber, look, looked, newLevel, fullTurn, Turn, stays, stores, ends}
+use Rattle.meaning.specs.FullReading.{opens, closes, letter, eventOf, mostEvents, knownEvent, look, looked, newLevel, fullTurn, Turn, stays, stores, ends}
 use Rattle.meaning.specs.SkipBook.{inStill}
 use Rattle.meaning.specs.Skipping.{held, settled}
 use Rattle.meaning.specs.declared.Reading.{Reading}
@@ -18,47 +18,52 @@ use Rattle.meaning.proofs.laws.Answered.{and-true, refuse-passes}
 use Rattle.meaning.proofs.laws.Bools.{or-true-right}
 use Rattle.meaning.proofs.rulefile.Accepted.{accepted-is-rule}
 use Rattle.rule.proofs.Looks.{letter-look, tree-look, class-look}
-use Rattle.rule.specs.Tables.{letterByte, treeByte, classByte}
+use Rattle.rule.specs.Tables.{letterByte, treeByte, classByte, tableSays, moveIn}
 use Rattle.rule.specs.Says.{numbersOf, RuleOf}
 use Rattle.rule.specs.declared.Rule.{Rule}
-use Rattle.turning.specs.Turns.{lookNumber, StatesIn, BookServes}
+use Rattle.rule.specs.declared.tables.Table.{Table}
+use Rattle.rule.specs.declared.tables.Table.the-variants.{LetterMoves, TreeStart, TreeMoves}
+use Rattle.rule.specs.declared.tables.Move.{Move}
+use Rattle.rule.specs.declared.tables.Move.the-variants as move
+use Rattle.turning.specs.declared.turns.LookedUp.{LookedUp}
+use Rattle.turning.specs.declared.turns.LookedUp.the-variants.{To, Refused}
+use Rattle.turning.specs.Turns.{foundAnswer, lookAnswer, StatesIn, BookServes}
 
 -- ---- a look at a byte of a table
-
-no-move-number : (table : Table) → 0 < noMoveNumber table
-unfolding noMoveNumber
-no-move-number letterTable = omega arith
-no-move-number startTable = omega arith
-no-move-number treeTable = omega arith
 
 module _ (ceiling : ℕ) (r : Reading) (table : Table) (byte : ℕ) (next : ℕ → Turn) where
   -- a look that may be refused: at the ceiling, and then where there is no move
   abbrev pub lookAt : Answer Turn
-  lookAt = refuse 9 at r .taken when ceiling ≤? r .looks otherwise look table (r .taken) (asMove byte) next
+  lookAt = refuse 9 at r .taken when ceiling ≤? r .looks otherwise look (tableSays table) (r .taken) (asMove byte) next
 
-  abbrev pub refusedWith : ℕ
-  refusedWith = lookNumber ceiling r byte (noMoveNumber table)
+  -- what the turn is once the look has come to a state or to a number
+  unfoldable turnBy : LookedUp → Answer Turn
+  turnBy (To state) = given (next state)
+  turnBy (Refused number) = refused number (r .taken)
 
-  pub look-gives : refusedWith ≡ 0 → lookAt ≡ given (next byte)
-  unfolding lookNumber if_then_else_ refuse_at_when_otherwise_ look asMove
-  look-gives = go (ceiling ≤? r .looks) (byte =? none)
+  look-is : lookAt ≡ turnBy (lookAnswer ceiling r (moveIn table byte))
+  unfolding lookAnswer foundAnswer moveIn if_then_else_ refuse_at_when_otherwise_ look asMove turnBy
+  look-is = go (ceiling ≤? r .looks) (byte =? none)
     where
-      go : (full isNone : Bool) → (if full then 9 else (if isNone then noMoveNumber table else 0)) ≡ 0
-          → (refuse 9 at r .taken when full otherwise look table (r .taken) (if isNone then noMove else (to byte)) next) ≡ given (next byte)
-      go true isNone e = absurd (omega arith)
-      go false true e = absurd (omega (arith, no-move-number table))
-      go false false e = refl
+      go : (full isNone : Bool)
+          → (refuse 9 at r .taken when full otherwise look (tableSays table) (r .taken) (if isNone then noMove else (to byte)) next)
+          ≡ turnBy (if full then (Refused 9) else (foundAnswer (if isNone then (move.NoneIn table) else (move.To byte))))
+      go true isNone = refl
+      go false true = refl
+      go false false = refl
 
-  pub look-refuses : (refusedWith ≡ 0 → ⊥) → lookAt ≡ refused refusedWith (r .taken)
-  unfolding lookNumber if_then_else_ refuse_at_when_otherwise_ look asMove
-  look-refuses = go (ceiling ≤? r .looks) (byte =? none)
-    where
-      go : (full isNone : Bool) → ((if full then 9 else (if isNone then noMoveNumber table else 0)) ≡ 0 → ⊥)
-          → (refuse 9 at r .taken when full otherwise look table (r .taken) (if isNone then noMove else (to byte)) next)
-          ≡ refused (if full then 9 else (if isNone then noMoveNumber table else 0)) (r .taken)
-      go true isNone e = refl
-      go false true e = refl
-      go false false e = absurd (e refl)
+  -- a look that was made: what was found is the byte's move, and what it came to is the answer
+  module _ {found : Move} {answer : LookedUp} (read : found ≡ moveIn table byte) (made : answer ≡ lookAnswer ceiling r found) where
+    comes : lookAt ≡ turnBy answer
+    comes = look-is ∙ ap turnBy (sym (made ∙ ap (lookAnswer ceiling r) read))
+
+    pub look-gives : {state : ℕ} → answer ≡ To state → lookAt ≡ given (next state)
+    unfolding turnBy
+    look-gives e = comes ∙ ap turnBy e
+
+    pub look-refuses : {number : ℕ} → answer ≡ Refused number → lookAt ≡ refused number (r .taken)
+    unfolding turnBy
+    look-refuses e = comes ∙ ap turnBy e
 
 -- ---- which event a number is
 
@@ -158,22 +163,22 @@ module _ {file : List ℕ} {rule : Rule} (h : RuleOf file rule) where
 
   pub letter-turn : (room ceiling : ℕ) (r : Reading) (top : Level) (a : ℕ) → r .state < rule .states → a < rule .letters
       → fullTurn (ruleOf file) room ceiling r top (letter a)
-      ≡ lookAt ceiling r letterTable (letterByte file (rule .letters) (r .state) a) (λ q. stays (looked r q (r .depth)))
-  unfolding fullTurn
+      ≡ lookAt ceiling r LetterMoves (letterByte file (rule .letters) (r .state) a) (λ q. stays (looked r q (r .depth)))
+  unfolding fullTurn tableSays
   letter-turn room ceiling r top a hq ha =
       rw (← letters-are, letter-look file (h .accepted) (r .state) a (omega (arith, states-are)) (omega (arith, letters-are)))
 
   pub open-turn : (room ceiling : ℕ) (r : Reading) (top : Level) → r .depth < room
       → fullTurn (ruleOf file) room ceiling r top opens
-      ≡ lookAt ceiling r startTable (rule .«tree_start») (λ q. stores (newLevel r) (looked r q (r .depth + 1)))
-  unfolding fullTurn treeStartMove
+      ≡ lookAt ceiling r TreeStart (rule .«tree_start») (λ q. stores (newLevel r) (looked r q (r .depth + 1)))
+  unfolding fullTurn treeStartMove tableSays
   open-turn room ceiling r top free = refuse-passes 8 (r .taken) _ (lt-leb room (r .depth) free) ∙ rw tree-start-is
 
   pub close-turn : (room ceiling : ℕ) (r : Reading) (top : Level) → (r .depth ≡ 0 → ⊥)
       → r .state < rule .states → top .above < rule .states
       → fullTurn (ruleOf file) room ceiling r top closes
-      ≡ lookAt ceiling r treeTable (treeByte file (rule .states) (rule .letters) (top .above) (r .state)) (λ q. ends (looked r q (r .depth - 1)))
-  unfolding fullTurn
+      ≡ lookAt ceiling r TreeMoves (treeByte file (rule .states) (rule .letters) (top .above) (r .state)) (λ q. ends (looked r q (r .depth - 1)))
+  unfolding fullTurn tableSays
   close-turn room ceiling r top inside hq hu =
       refuse-passes 7 (r .taken) _ (ne-eqb (r .depth) 0 inside)
       ∙ rw (← letters-are, ← states-are, tree-look file (h .accepted) (top .above) (r .state) (omega (arith, states-are)) (omega (arith, states-are)))

@@ -4,18 +4,23 @@ use mathlib.Core.Path.{_≡_}
 use mathlib.Core.Bool.{Bool, false}
 use mathlib.Core.List.{List}
 use lib.ListN.{length}
-use Rattle.meaning.specs.Answers.{Answer, given, refused, if_then_else_, _≤?_, _=?_}
+use Rattle.meaning.specs.Answers.{Answer, given, refused, if_then_else_, _≤?_}
 use Rattle.meaning.specs.FullReading as full
-use Rattle.meaning.specs.FullReading.{stays, stores, ends, mostEvents}
-use Rattle.meaning.specs.RuleFile.{none, ruleOf}
+use Rattle.meaning.specs.FullReading.{stays, stores, ends, mostEvents, noMoveNumber}
+use Rattle.meaning.specs.RuleFile.{ruleOf}
 use Rattle.meaning.specs.Calls.{Stored, notReading}
 use Rattle.meaning.specs.Skipping.{held, settled}
 use Rattle.meaning.specs.declared.Reading.{Reading}
 use Rattle.meaning.specs.declared.Level.{Level}
 use Rattle.rule.specs.Says.{RuleOf}
+use Rattle.rule.specs.Tables.{tableSays}
 use Rattle.rule.specs.declared.Rule.{Rule}
+use Rattle.rule.specs.declared.tables.Move.{Move}
+use Rattle.rule.specs.declared.tables.Move.the-variants as move
 use Rattle.turning.specs.declared.Turn.{Turn}
 use Rattle.turning.specs.declared.Turn.the-variants as turn
+use Rattle.turning.specs.declared.turns.LookedUp.{LookedUp}
+use Rattle.turning.specs.declared.turns.LookedUp.the-variants as look
 
 -- the number and the values of each case, after a reading: the place of a refused event is the count of events taken
 unfoldable pub turnSays : Reading → Turn → Answer full.Turn
@@ -24,9 +29,14 @@ turnSays before (turn.Stores l r) = given (stores l r)
 turnSays before (turn.Ends r) = given (ends r)
 turnSays before (turn.Refused number) = refused number (before .taken)
 
--- the number of the refusal of a look at a byte, or zero where it gives a state: the ceiling first, and then no move
-unfoldable pub lookNumber : ℕ → Reading → ℕ → ℕ → ℕ
-lookNumber ceiling r byte number = if ceiling ≤? r .looks then 9 else (if byte =? none then number else 0)
+-- what a look comes to where it is let: the state, or the number of the table that has no move
+unfoldable pub foundAnswer : Move → LookedUp
+foundAnswer (move.To state) = look.To state
+foundAnswer (move.NoneIn table) = look.Refused (noMoveNumber (tableSays table))
+
+-- what a look comes to: the ceiling first, and then what was found
+unfoldable pub lookAnswer : ℕ → Reading → Move → LookedUp
+lookAnswer ceiling r found = if ceiling ≤? r .looks then (look.Refused 9) else (foundAnswer found)
 
 -- the state, and the state above if there is one, are states of the rule
 pub record StatesIn (rule : Rule) (r : Reading) (top : Level) : Type 0 where

@@ -5,27 +5,40 @@ use meaning::Level;
 use meaning::Reading;
 use rule::Rule;
 use rule::tables;
+use rule::tables::Move;
+use rule::tables::Table;
 ghost use mathlib.Core.Path.{_≡_};
 ghost use mathlib.Core.Bool.{true};
 ghost use mathlib.Core.List.{List};
 ghost use Prim.Native.Nat.{ℕ, _+_, _<_};
 ghost use Rattle.meaning.specs.RuleFile.{ruleOf};
-ghost use Rattle.meaning.specs.FullReading.{opens, closes, letter, eventOf, fullTurn};
+ghost use Rattle.meaning.specs.FullReading.{opens, closes, letter, eventOf, noMoveNumber, fullTurn};
 ghost use Rattle.meaning.specs.FullReading as full;
 ghost use Rattle.meaning.specs.Skipping as skipping;
 ghost use Rattle.meaning.specs.Skipping.{endsLevel, settledTurn, skipEvent};
 ghost use Rattle.rule.specs.Says.{RuleOf};
-ghost use Rattle.turning.specs.Turns.{turnSays, lookNumber, Counted, OneMore, StatesIn, Stands};
+ghost use Rattle.rule.specs.Tables.{tableSays};
+ghost use Rattle.turning.specs.Turns.{turnSays, lookAnswer, Counted, OneMore, StatesIn, Stands};
 
 // The most events that a reading takes.
 pub const MOST_EVENTS: u32 = 4294967295;
 
-// The refusal where each table has no move.
-const NO_LETTER_MOVE: u8 = 11;
+// What a look comes to: the state that it leads to, or the number of the refusal.
+enum LookedUp {
+    To(u8),
+    Refused(u8),
+}
 
-const NO_TREE_START: u8 = 11;
-
-const NO_TREE_MOVE: u8 = 11;
+// The number of the refusal where a table has no move.
+fn no_move_number(table: Table) -> u8
+    ensures { λ r. ⌜ r ≡ noMoveNumber (tableSays table) ⌝ }
+{
+    match table {
+        Table::LetterMoves => 11,
+        Table::TreeStart => 17,
+        Table::TreeMoves => 18,
+    }
+}
 
 // The reading after an event that was a look.
 fn looked(reading: Reading, state: u8, depth: u32) -> Reading
@@ -58,17 +71,17 @@ fn passed(reading: Reading, state: u8, depth: u32, skip: u32) -> Reading
     }
 }
 
-// The number of the refusal of a look at a byte, or zero where it gives a state: the ceiling first, and then no move.
-fn look_refused(ceiling: u32, reading: Reading, byte: u8, number: u8) -> u8
-    ensures { λ r. ⌜ r ≡ lookNumber ceiling reading byte number ⌝ }
+// A look: the ceiling first, and then the move that the table has.
+fn look_up(ceiling: u32, reading: Reading, found: Move) -> LookedUp
+    ensures { λ r. ⌜ r ≡ lookAnswer ceiling reading found ⌝ }
 {
     if ceiling <= reading.looks {
-        return 9;
+        return LookedUp::Refused(9);
     }
-    if byte == Rule::NONE {
-        return number;
+    match found {
+        Move::To(state) => LookedUp::To(state),
+        Move::NoneIn(table) => LookedUp::Refused(no_move_number(table)),
     }
-    0
 }
 
 // A letter in full reading. The level store's length and the innermost record do not matter.
@@ -76,12 +89,11 @@ fn full_letter(file: &[u8], rule: Rule, ceiling: u32, reading: Reading, a: u16) 
     requires { ⌜ RuleOf (now file) rule ⌝ ∗ ⌜ OneMore reading ⌝ ∗ ⌜ reading .state < rule .states ⌝ ∗ ⌜ a < rule .letters ⌝ }
     ensures { λ r. ⌜ ((room : ℕ) (top : Level) → turnSays reading r ≡ fullTurn (ruleOf (now (file .entry))) room ceiling reading top (letter a)) ⌝ }
 {
-    let state = tables::letter_move(file, rule, reading.state, a);
-    let letter_refused = look_refused(ceiling, reading, state, NO_LETTER_MOVE);
-    if letter_refused != 0 {
-        return Turn::Refused(letter_refused);
+    let found = tables::letter_move(file, rule, reading.state, a);
+    match look_up(ceiling, reading, found) {
+        LookedUp::To(state) => Turn::Stays(looked(reading, state, reading.depth)),
+        LookedUp::Refused(number) => Turn::Refused(number),
     }
-    Turn::Stays(looked(reading, state, reading.depth))
 }
 
 // An open in full reading.
@@ -90,18 +102,19 @@ fn full_open(rule: Rule, room: usize, ceiling: u32, reading: Reading) -> Turn
     ensures { λ r. ⌜ ((file : List ℕ) (top : Level) → RuleOf file rule → turnSays reading r ≡ fullTurn (ruleOf file) room ceiling reading top opens) ⌝ }
 {
     let depth = reading.depth as usize;
-    let start_refused = look_refused(ceiling, reading, rule.tree_start, NO_TREE_START);
     if room <= depth {
         return Turn::Refused(8);
     }
-    if start_refused != 0 {
-        return Turn::Refused(start_refused);
+    match look_up(ceiling, reading, tables::tree_start(rule)) {
+        LookedUp::To(state) => {
+            let opened = Level {
+                above: reading.state,
+                opened: reading.taken,
+            };
+            Turn::Stores(opened, looked(reading, state, reading.depth + 1))
+        }
+        LookedUp::Refused(number) => Turn::Refused(number),
     }
-    let opened = Level {
-        above: reading.state,
-        opened: reading.taken,
-    };
-    Turn::Stores(opened, looked(reading, rule.tree_start, reading.depth + 1))
 }
 
 // A close in full reading.
@@ -112,12 +125,11 @@ fn full_close(file: &[u8], rule: Rule, ceiling: u32, reading: Reading, top: Leve
     if reading.depth == 0 {
         return Turn::Refused(7);
     }
-    let state = tables::tree_move(file, rule, top.above, reading.state);
-    let tree_refused = look_refused(ceiling, reading, state, NO_TREE_MOVE);
-    if tree_refused != 0 {
-        return Turn::Refused(tree_refused);
+    let found = tables::tree_move(file, rule, top.above, reading.state);
+    match look_up(ceiling, reading, found) {
+        LookedUp::To(state) => Turn::Ends(looked(reading, state, reading.depth - 1)),
+        LookedUp::Refused(number) => Turn::Refused(number),
     }
-    Turn::Ends(looked(reading, state, reading.depth - 1))
 }
 
 // A close on a settled level at skip depth zero, which ends the level. Only a held level ends without a look.

@@ -18,6 +18,7 @@ use Rattle.meaning.specs.FullReading.{eventOf, mostEvents, looked, Table
 use Rattle.meaning.specs.Hedges.{Hedge, ε, _·_, ⟨_⟩·_, eventsOf, known, Goes, byNothing, byLetter, byTree, Led, toState, missingAt, later, byMove, fromThere, evaluate, height, deepestOn, deepest}
 use Rattle.meaning.specs.StreamingMachine.{Suffices, Comes}
 use Rattle.meaning.proofs.laws.Answered.{refuse-passes, and-true, both-true}
+use Rattle.meaning.proofs.laws.Tables.{number-tells}
 use Rattle.meaning.proofs.laws.FeedLaws.{feed-none, feed-taken, feed-refused}
 
 -- ---- what led to a state
@@ -253,6 +254,17 @@ follows-missing : {step : Run → ℕ → Answer Run} {m : Run} {n : ℕ} {fed :
 follows-missing (arrives e) same = let z : _≡_ {A = ℕ} 0 1 = cc in absurd (omega arith)
 follows-missing (stops e) same = cc
 
+missing-refused : {step : Run → ℕ → Answer Run} {m : Run} {n : ℕ} {fed : Went Run} {led : Led} {table : Table} {i : ℕ}
+    → Follows step m n [] fed led → fed .ended ≡ refused (noMoveNumber table) (m .reading .taken + i) → led ≡ missingAt table i
+missing-refused {step} {m} {n} (arrives {q = q₁} e) same =
+    let all = ap (λ w. w .ended) (e ∙ feed-none step (ahead m q₁ n)) in
+    let z : _≡_ {A = ℕ} 0 1 = cc in absurd (omega arith)
+missing-refused {m} {table} {i} (stops {table = table₁} {i = i₁} e) same =
+    let number : noMoveNumber table₁ ≡ noMoveNumber table = cc in
+    let place : m .reading .taken + i₁ ≡ m .reading .taken + i = cc in
+    let events : i₁ ≡ i = omega arith in
+    rw (number-tells table₁ table number, events)
+
 come-to : {step : Run → ℕ → Answer Run} {m : Run} {n : ℕ} {fed : Went Run} {led : Led} {q : ℕ}
     → Follows step m n [] fed led → Comes fed q (m .levels) → led ≡ toState q
 come-to {step} {m} {n} (arrives {q = q₁} e) comes =
@@ -304,10 +316,24 @@ module _ (R : Rule) (room ceiling : ℕ) (m : Run) (h : Hedge) (letters : known 
       ≡ record { last = ahead m q′ (length (eventsOf h)); ended = given tt }
   full-follows e = follows-to followed e
 
-  -- where a move is missing, the event that wants it is refused, at its own place
+  -- where a move is missing, the event that wants it is refused, at its own place, with the number of the table that has none
   pub full-refuses : {table : Table} {i : ℕ} → evaluate R (m .reading .state) h ≡ missingAt table i
       → feedBy (fullStep R room ceiling) m (eventsOf h) .ended ≡ refused (noMoveNumber table) (m .reading .taken + i)
   full-refuses e = follows-missing followed e
+
+  -- and the other way round: the number and the place of a refusal tell which table has none, and at which event
+  pub full-refuses-exactly-if : (table : Table) (i : ℕ)
+      → feedBy (fullStep R room ceiling) m (eventsOf h) .ended ≡ refused (noMoveNumber table) (m .reading .taken + i)
+      ↔ evaluate R (m .reading .state) h ≡ missingAt table i
+  full-refuses-exactly-if table i = (missing-refused followed, full-refuses)
+
+  -- so 11 says that there is no letter move, 17 that there is no tree start, and 18 that there is no tree move
+  pub full-says-which : (i : ℕ)
+      → (feedBy (fullStep R room ceiling) m (eventsOf h) .ended ≡ refused 11 (m .reading .taken + i) ↔ evaluate R (m .reading .state) h ≡ missingAt letterTable i)
+      × (feedBy (fullStep R room ceiling) m (eventsOf h) .ended ≡ refused 17 (m .reading .taken + i) ↔ evaluate R (m .reading .state) h ≡ missingAt startTable i)
+      × (feedBy (fullStep R room ceiling) m (eventsOf h) .ended ≡ refused 18 (m .reading .taken + i) ↔ evaluate R (m .reading .state) h ≡ missingAt treeTable i)
+  unfolding noMoveNumber
+  full-says-which i = (full-refuses-exactly-if letterTable i, full-refuses-exactly-if startTable i, full-refuses-exactly-if treeTable i)
 
   -- all events are taken, and reading comes to a state with the levels as they were, exactly if the automaton goes to that
   -- state by the hedge

@@ -1,10 +1,10 @@
 -- `book::moves::by_letters` meets its contract. The loop's invariant: the word stands for the states that the letters walked so
 -- far lead to. Assumes nothing.
 use borrow.Author.Needs.{needs}
-use mathlib.Core.Path.{_≡_, ap, _∙_}
+use mathlib.Core.Path.{_≡_}
 use Prim.Native.Nat.{_≤_, _-_}
 use native.Mathlib.Omega.{arith}
-use Rattle.meaning.specs.RuleFile.{asMove, letterMove, ruleOf}
+use Rattle.meaning.specs.RuleFile.{letterMove, ruleOf}
 use Rattle.book.proofs.Walked.{Walked, walk-first, walk-next, letter-is, letters-walked}
 use Rattle.book.proofs.moves.by_letters.Statement.{statement}
 use Rattle.book.proofs.moves.by_letters.Tie as tie
@@ -34,8 +34,8 @@ loop-again : tie.Need-loop-again Inv-loop μ-loop
 loop-again c =
     let start = c .before .before .before .before .before .before in
     let loop = c .before .before .before .before .loop in
-    let move = ap asMove (c .before .letter-move .ensures) ∙ letter-is (start .pre .0) (start .args .state) (loop .letter) (start .pre .1) (c .before .before .if1 .taken) in
-    (omega arith, walk-next _ (loop .letter) (loop .set) (c .target .result) (c .before .letter-move .result) move (loop .inv .1) (c .target .ensures))
+    let move = letter-is (start .pre .0) (start .args .state) (loop .letter) (c .before .letter-move .ensures) (start .pre .1) (c .before .before .if1 .taken) in
+    (omega arith, walk-next _ (loop .letter) (loop .set) (c .target .result) move (loop .inv .1) (c .target .ensures))
 
 returns : tie.Need-returns Inv-loop μ-loop
 returns c =

@@ -1,10 +1,10 @@
 -- `book::moves::by_trees` meets its contract. The loop's invariant: the word stands for the states that the lower states walked so
 -- far lead to. Assumes nothing.
 use borrow.Author.Needs.{needs}
-use mathlib.Core.Path.{_≡_, ap, _∙_}
+use mathlib.Core.Path.{_≡_}
 use Prim.Native.Nat.{_≤_, _-_}
 use native.Mathlib.Omega.{arith}
-use Rattle.meaning.specs.RuleFile.{asMove, treeMove, ruleOf}
+use Rattle.meaning.specs.RuleFile.{treeMove, ruleOf}
 use Rattle.book.proofs.Walked.{Walked, walk-first, walk-next, tree-is, trees-walked}
 use Rattle.book.proofs.moves.by_trees.Statement.{statement}
 use Rattle.book.proofs.moves.by_trees.Tie as tie
@@ -34,8 +34,8 @@ loop-again : tie.Need-loop-again Inv-loop μ-loop
 loop-again c =
     let start = c .before .before .before .before .before .before in
     let loop = c .before .before .before .before .loop in
-    let move = ap asMove (c .before .tree-move .ensures) ∙ tree-is (start .pre .0) (start .args .upper) (loop .lower) (start .pre .1) (c .before .before .if1 .taken) in
-    (omega arith, walk-next _ (loop .lower) (loop .set) (c .target .result) (c .before .tree-move .result) move (loop .inv .1) (c .target .ensures))
+    let move = tree-is (start .pre .0) (start .args .upper) (loop .lower) (c .before .tree-move .ensures) (start .pre .1) (c .before .before .if1 .taken) in
+    (omega arith, walk-next _ (loop .lower) (loop .set) (c .target .result) move (loop .inv .1) (c .target .ensures))
 
 returns : tie.Need-returns Inv-loop μ-loop
 returns c =

@@ -5,7 +5,7 @@ use mathlib.Core.Path.{_≡_, ap, sym, _∙_}
 use mathlib.Core.Bool.{not}
 use Prim.Native.Nat.{ℕ, _≤_, _-_}
 use native.Mathlib.Omega.{arith}
-use Rattle.meaning.specs.RuleFile.{asMove, treeMove, ruleOf}
+use Rattle.meaning.specs.RuleFile.{treeMove, ruleOf}
 use Rattle.meaning.specs.SkipBook.{noneOr}
 use Rattle.book.specs.Sets.{StandsFor, firstOf}
 use Rattle.book.proofs.Standing.{gather-first}
@@ -46,7 +46,7 @@ loop-again c =
     let start = c .before .before .before .before .before .before .before .before in
     let loop = c .before .before .before .before .before .before .loop in
     let u : ℕ = start .args .upper in
-    let move = ap asMove (c .before .before .before .tree-move .ensures) ∙ tree-is (start .pre .0) u (loop .lower) (start .pre .1) (c .before .before .before .before .if1 .taken) in (
+    let move = tree-is (start .pre .0) u (loop .lower) (c .before .before .before .tree-move .ensures) (start .pre .1) (c .before .before .before .before .if1 .taken) in (
       omega arith,
       c .with .ensures _ (loop .lower) (c .before .before .only .ensures) (sym (c .before .changed .ensures ∙ ap (λ m. not (noneOr u m)) move)) (loop .inv .1),
     )
