@@ -18,11 +18,11 @@ use Rattle.meaning.proofs.laws.Answered.{and-true, both-true}
 use Rattle.meaning.proofs.laws.Truths.{truth, same-truth, true-is-not-false, implied, implies}
 use Rattle.meaning.proofs.laws.Bools.{all-below, below-all, listed-length, listed-same}
 use Rattle.meaning.proofs.skipbook.Marks.{marked-true, marked-below}
-use Rattle.meaning.proofs.skipbook.Rounds.{most-states, start-marked}
+use Rattle.meaning.proofs.skipbook.Rounds.{most-states, marks-are-reach}
+use Rattle.meaning.proofs.skipbook.Reaching.{reach-below, reach-itself}
 use Rattle.meaning.proofs.skipbook.Bits.{bit-word, bit-and, bit-only, bit-zero, same-bits}
 use Rattle.book.specs.Sets.{StandsFor, firstOf, reachedWord, Reached, changing, Holds}
 use Rattle.book.proofs.Standing.{stands-as, stands-word, first-true, first-in}
-use Rattle.book.proofs.InRounds.{reached-below}
 
 -- a word that stands for the first n states that pass a test is the word of n marks
 pub first-word-of : (w n : ℕ) (test : ℕ → Bool) → w < 2 ^ 64 → n ≤ 64 → StandsFor w (firstOf n test) → w ≡ wordOf (listed n test)
@@ -34,7 +34,7 @@ first-word-of w n test small few s =
 
 module _ (R : Rule) (rule : IsRule R) (q : ℕ) (start : q < R .states) where
   word : ℕ
-  word = reachedWord R 64 q
+  word = reachedWord R q
 
   word-bit : (p : ℕ) → bit word p ≡ marked (reachMarks R q) p
   unfolding word reachedWord reachMarks
@@ -42,10 +42,10 @@ module _ (R : Rule) (rule : IsRule R) (q : ℕ) (start : q < R .states) where
 
   marked-state : (p : ℕ) → marked (reachMarks R q) p ≡ true → p < R .states
   unfolding reachMarks
-  marked-state p m = reached-below R rule q start 64 p m
+  marked-state p m = reach-below rule start (marks-are-reach R rule q start p .0 m)
 
   -- Reach(q) is q alone
-  pub still-test : (reachedWord R 64 q =? 2 ^ q) ≡ allBelow (R .states) (λ p. not (marked (reachMarks R q) p) || p =? q)
+  pub still-test : (reachedWord R q =? 2 ^ q) ≡ allBelow (R .states) (λ p. not (marked (reachMarks R q) p) || p =? q)
   unfolding word reachMarks
   still-test =
       same-truth (word =? 2 ^ q) _
@@ -55,7 +55,7 @@ module _ (R : Rule) (rule : IsRule R) (q : ℕ) (start : q < R .states) where
       (λ a. eq-eqb word (2 ^ q) (same-bits word (2 ^ q) (λ p. same-truth (bit word p) (bit (2 ^ q) p)
       (λ b. let m = sym (word-bit p) ∙ b in
       bit-only q p ∙ eq-eqb q p (sym (eqb-true p q (implied (marked (reachMarks R q) p) _ (all-below (R .states) _ a p (marked-state p m)) m))))
-      (λ b. word-bit p ∙ ap (marked (reachMarks R q)) (sym (eqb-true q p (sym (bit-only q p) ∙ b))) ∙ start-marked R 64 q start))))
+      (λ b. word-bit p ∙ ap (marked (reachMarks R q)) (sym (eqb-true q p (sym (bit-only q p) ∙ b))) ∙ marks-are-reach R rule q start q .1 reach-itself))))
 
   -- none of Reach(q) changes the level above
   module _ (u change : ℕ) (s : StandsFor change (changing R u)) where
@@ -63,7 +63,7 @@ module _ (R : Rule) (rule : IsRule R) (q : ℕ) (start : q < R .states) where
     unfolding StandsFor
     changing-at p h = s p (omega (arith, most-states rule))
 
-    pub hold-test : (bitAnd (reachedWord R 64 q) change =? 0) ≡ allBelow (R .states) (λ p. not (marked (reachMarks R q) p) || noneOr u (treeMove R u p))
+    pub hold-test : (bitAnd (reachedWord R q) change =? 0) ≡ allBelow (R .states) (λ p. not (marked (reachMarks R q) p) || noneOr u (treeMove R u p))
     unfolding word changing
     hold-test =
         same-truth (bitAnd word change =? 0) _
@@ -81,7 +81,7 @@ module _ (R : Rule) (rule : IsRule R) (q : ℕ) (start : q < R .states) where
 
 -- ---- the words of the book
 
-module _ (R : Rule) (rule : IsRule R) (reach : List ℕ) (reached : Reached R 64 reach) (w : ℕ) (small : w < 2 ^ 64) where
+module _ (R : Rule) (rule : IsRule R) (reach : List ℕ) (reached : Reached R reach) (w : ℕ) (small : w < 2 ^ 64) where
   pub still-is-word : StandsFor w (firstOf (R .states) (λ q. getD reach q 0 =? 2 ^ q)) → w ≡ wordOf (stillMarks R)
   unfolding stillMarks Reached
   still-is-word s =

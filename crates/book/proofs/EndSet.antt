@@ -9,15 +9,15 @@ use native.Mathlib.Omega.{arith}
 use lib.Bits.{bitXor}
 use lib.ListN.{getD}
 use Rattle.meaning.specs.RuleFile.{Rule, IsRule, treeMove, treeStartMove}
-use Rattle.meaning.specs.SkipBook.{anyBelow, marked, goesTo, oneMove, rounds, startMarks, endRound, endsIn, endMarks, adds, wordOf, bit}
+use Rattle.meaning.specs.SkipBook.{anyBelow, marked, goesTo, oneMove, rounds, startMarks, endRound, endMarks, wordOf, bit}
 use Rattle.meaning.proofs.laws.Truths.{same-truth, or-true-right}
 use Rattle.meaning.proofs.laws.Bools.{any-below-same, any-below-fails}
 use Rattle.meaning.proofs.skipbook.Reaching.{ends-below}
-use Rattle.meaning.proofs.skipbook.Rounds.{most-states, goes-to, goes-true, end-keeps, end-alike, start-true, start-is-marked, start-length, marked-ends, ends-never-used-up}
+use Rattle.meaning.proofs.skipbook.Rounds.{most-states, goes-to, goes-true, end-keeps, end-alike, start-true, start-is-marked, start-length, endsIn, marked-ends, ends-in, marks-are-ends}
 use Rattle.meaning.proofs.skipbook.Bits.{bit-word, bit-xor}
 use Rattle.book.proofs.Standing.{stands-as, stands-word, or-none}
-use Rattle.book.proofs.InRounds.{same-marks, next-word, word-stays, word-rests, same-adds, other-adds}
-use Rattle.book.specs.Sets.{StandsFor, StatesOf, joined, byLetters, byTrees, Moves, WithTrees, endsWord, EndsFound}
+use Rattle.book.proofs.InRounds.{same-marks, same-word, next-word, word-rests}
+use Rattle.book.specs.Sets.{StandsFor, StatesOf, joined, byLetters, byTrees, Moves, WithTrees}
 
 -- ---- a table of moves, and the lower states that it is for
 
@@ -84,6 +84,15 @@ added-to false true f = refl
 added-to false false f = refl
 
 -- ---- the states in which a tree can end
+
+-- their word, as far as so many rounds find them
+pub endsWord : Rule → ℕ → ℕ
+endsWord R i = wordOf (endsIn R i)
+
+-- that word, and a table of the moves with these lower states
+pub record EndsFound (R : Rule) (i set : ℕ) (moves : List ℕ) : Type 0 where
+  pub setIs : set ≡ endsWord R i
+  pub movesAre : Moves R (endsIn R i) moves
 
 module _ (R : Rule) (rule : IsRule R) where
   end-low : (i p : ℕ) → marked (endsIn R i) p ≡ true → p < R .states
@@ -165,25 +174,10 @@ module _ (R : Rule) (rule : IsRule R) where
           let same = end-rests i (sym is ∙ e ∙ found .setIs) j l in
           record { setIs = found .setIs ∙ sym same; movesAre = moves-same R (endsIn R i) (endsIn R j) moves (sym same) (found .movesAre) }
 
-  -- ---- the last round
-
-  module _ (set : ℕ) (moves : List ℕ) (found : EndsFound R 63 set moves) where
-    -- the last round adds nothing, so the table is the one for all states in which a tree can end
-    pub all-found : Moves R (endMarks R) moves
-    unfolding endMarks endsIn
-    all-found =
-        moves-same R (endsIn R 63) (endsIn R 64) moves
-        (sym (word-stays R (endRound R) (end-keeps R) (end-alike R) (startMarks R) end-low 63 (ends-never-used-up R rule))) (found .movesAre)
-
-    module _ (next : ℕ) (small : next < 2 ^ 64) (s : StandsFor next (joined moves set)) where
-      pub last-end-same : next ≡ set → adds R (endsIn R 63) (endsIn R 64) ≡ false
-      unfolding endsWord endsIn
-      last-end-same =
-          same-adds R (endRound R) (end-keeps R) (end-alike R) (startMarks R) end-low 63 set next (found .setIs)
-          (next-end-word 63 set moves found next small s)
-
-      pub last-end-other : (next ≡ set → ⊥) → adds R (endsIn R 63) (endsIn R 64) ≡ true
-      unfolding endsWord endsIn
-      last-end-other =
-          other-adds R (endRound R) (end-keeps R) (end-alike R) (startMarks R) end-low 63 set next (found .setIs)
-          (next-end-word 63 set moves found next small s)
+  -- after 63 rounds the table is the one for all states in which a tree can end
+  pub all-found : (set : ℕ) (moves : List ℕ) → EndsFound R 63 set moves → Moves R (endMarks R) moves
+  all-found set moves found =
+      moves-same R (endsIn R 63) (endMarks R) moves
+      (same-word (endsIn R 63) (endMarks R) (λ p.
+      same-truth _ _ (λ m. marks-are-ends R rule p .1 (ends-in R rule 63 (most-states rule) p .0 m))
+      (λ m. ends-in R rule 63 (most-states rule) p .1 (marks-are-ends R rule p .0 m)))) (found .movesAre)

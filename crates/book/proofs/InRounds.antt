@@ -1,9 +1,9 @@
--- Rounds on words are rounds on marks: a word that is joined over its members is the word of the next round, a round that
--- changes no word adds nothing, and no round after it changes the word. These are laws of rounds of any kind; the set of the
--- tree start (`EndSet.antt`) and Reach go by them.
+-- Rounds on words are rounds on marks: a word that is joined over its members is the word of the next round, and no round after
+-- one that leaves the word changes it. These are laws of rounds of any kind; the set of the tree start (`EndSet.antt`) and Reach
+-- go by them.
 use mathlib.Core.Path.{_≡_, refl, sym, ap, _∙_}
 use mathlib.Core.Logic.{⊎-elim}
-use mathlib.Core.Bool.{Bool, true, false, not, _&&_}
+use mathlib.Core.Bool.{Bool, true, _&&_}
 use mathlib.Core.List.{List}
 use Prim.Native.Nat.{ℕ, zero, suc, _+_, _^_, _≤_, _<_}
 use native.Mathlib.Decide.{le-ind}
@@ -14,19 +14,23 @@ use lib.Pow.{pow-lt}
 use borrow.Author.Tests.{eqb-true, eq-eqb}
 use Rattle.meaning.specs.Answers.{_=?_}
 use Rattle.meaning.specs.RuleFile.{Rule, IsRule}
-use Rattle.meaning.specs.SkipBook.{marked, round, rounds, endMarks, onlyState, reachedIn, adds, wordOf, bit}
+use Rattle.meaning.specs.SkipBook.{marked, round, rounds, endMarks, onlyState, reachMarks, wordOf, bit}
 use Rattle.meaning.proofs.laws.Answered.{and-true, both-true}
-use Rattle.meaning.proofs.laws.Truths.{truth, same-truth, or-cases, or-true-left, or-true-right, never-both}
-use Rattle.meaning.proofs.laws.Bools.{below-any, any-below, any-below-fails}
+use Rattle.meaning.proofs.laws.Truths.{same-truth, or-cases, or-true-left, or-true-right}
+use Rattle.meaning.proofs.laws.Bools.{below-any, any-below}
 use Rattle.meaning.proofs.skipbook.Reaching.{reach-below}
-use Rattle.meaning.proofs.skipbook.Rounds.{most-states, one-below, round-keeps, round-adds, round-by, round-length, nothing-added, reach-keeps, reach-alike, reach-never-used-up, marked-reached, reached-first, reached-next, only-true, only-start, only-length}
+use Rattle.meaning.proofs.skipbook.Rounds.{most-states, one-below, round-keeps, round-adds, round-by, round-length, reach-keeps, reach-alike, reachedIn, reached-in, marks-are-reach, marked-reached, reached-first, reached-next, only-true, only-start, only-length}
 use Rattle.meaning.proofs.skipbook.Bits.{bit-word, word-of}
 use Rattle.book.proofs.Standing.{stands-as, stands-only, stands-word}
-use Rattle.book.specs.Sets.{StandsFor, Moves, joined, reachedWord, Reached}
+use Rattle.book.specs.Sets.{StandsFor, Moves, joined, reachedWord}
 
 -- marks of the same word are the same
 pub same-marks : (a b : List Bool) → wordOf a ≡ wordOf b → (p : ℕ) → marked a p ≡ marked b p
 same-marks a b e p = sym (bit-word a p) ∙ ap (λ (w : ℕ). bit w p) e ∙ bit-word b p
+
+-- and marks that are the same have the same word
+pub same-word : (a b : List Bool) → ((p : ℕ) → marked a p ≡ marked b p) → wordOf a ≡ wordOf b
+same-word a b same = word-of (wordOf a) b (λ p. bit-word a p ∙ same p)
 
 -- ---- one round
 
@@ -67,13 +71,6 @@ module _ (R : Rule) (step : List Bool → List Bool)
   abbrev after : ℕ → List Bool
   after i = rounds step i start
 
-  -- a round that adds nothing leaves the word
-  pub word-stays : (i : ℕ) → adds R (after i) (after (suc i)) ≡ false → wordOf (after (suc i)) ≡ wordOf (after i)
-  unfolding rounds
-  word-stays i e =
-      word-of (wordOf (after (suc i))) (after i) (λ p. bit-word (after (suc i)) p
-      ∙ same-truth _ _ (λ m. nothing-added R (after i) (after (suc i)) e p (low (suc i) p m) m) (λ m. keeps (after i) p (low i p m) m))
-
   next-same : (i j : ℕ) → wordOf (after i) ≡ wordOf (after j) → wordOf (after (suc i)) ≡ wordOf (after (suc j))
   unfolding rounds
   next-same i j e = ap wordOf (alike (after i) (after j) (λ p h. same-marks (after i) (after j) e p))
@@ -83,18 +80,11 @@ module _ (R : Rule) (step : List Bool → List Bool)
   word-rests i e =
       le-ind (λ (j : ℕ). wordOf (after j) ≡ wordOf (after i)) refl (λ j l same. next-same j i same ∙ e)
 
-  -- what a round does is told by its word
-  module _ (i set next : ℕ) (before : set ≡ wordOf (after i)) (then : next ≡ wordOf (after (suc i))) where
-    pub same-adds : next ≡ set → adds R (after i) (after (suc i)) ≡ false
-    unfolding adds
-    same-adds e =
-        any-below-fails (R .states) _ (λ p h. ap (λ (b : Bool). b && not (marked (after i) p))
-        (same-marks (after (suc i)) (after i) (sym then ∙ e ∙ before) p) ∙ never-both (marked (after i) p))
-
-    pub other-adds : (next ≡ set → ⊥) → adds R (after i) (after (suc i)) ≡ true
-    other-adds ne = ⊎-elim (λ t. t) (λ f. absurd (ne (then ∙ word-stays i f ∙ sym before))) (truth (adds R (after i) (after (suc i))))
-
 -- ---- Reach
+
+-- the word of the states reached from q in so many rounds
+pub wordIn : Rule → ℕ → ℕ → ℕ
+wordIn R i q = wordOf (reachedIn R i q)
 
 module _ (R : Rule) (rule : IsRule R) (q : ℕ) (start : q < R .states) where
   -- only states are marked
@@ -102,14 +92,14 @@ module _ (R : Rule) (rule : IsRule R) (q : ℕ) (start : q < R .states) where
   reached-below i p e = reach-below rule start (marked-reached R rule i q p e)
 
   reached-next-word : (moves : List ℕ) → Moves R (endMarks R) moves → (i next : ℕ) → next < 2 ^ 64
-      → StandsFor next (joined moves (reachedWord R i q)) → next ≡ reachedWord R (suc i) q
-  unfolding reachedWord
+      → StandsFor next (joined moves (wordIn R i q)) → next ≡ wordIn R (suc i) q
+  unfolding wordIn
   reached-next-word moves good i next small s =
       next-word R rule (endMarks R) (reachedIn R i q) moves good (reached-below i) next small s ∙ ap wordOf (sym (reached-next R i q))
 
   -- the set of the start alone is the word before the first round
-  first-word : 2 ^ q ≡ reachedWord R zero q
-  unfolding reachedWord
+  first-word : 2 ^ q ≡ wordIn R zero q
+  unfolding wordIn
   first-word =
       let few : length (onlyState R q) ≤ 64 = omega (arith, only-length R q, most-states rule) in
       let small : 2 ^ q < 2 ^ 64 = pow-lt {j = 64} (omega (arith, most-states rule)) in
@@ -119,29 +109,27 @@ module _ (R : Rule) (rule : IsRule R) (q : ℕ) (start : q < R .states) where
       (λ m. eq-eqb q p (sym (only-true R q p m)))) (stands-only q))
       ∙ ap wordOf (sym (reached-first R q))
 
-  reached-rests : (i : ℕ) → reachedWord R (suc i) q ≡ reachedWord R i q → (j : ℕ) → i ≤ j → reachedWord R j q ≡ reachedWord R i q
-  unfolding reachedWord reachedIn
+  reached-rests : (i : ℕ) → wordIn R (suc i) q ≡ wordIn R i q → (j : ℕ) → i ≤ j → wordIn R j q ≡ wordIn R i q
+  unfolding wordIn reachedIn
   reached-rests = word-rests R (round R (endMarks R)) (reach-keeps R) (reach-alike R) (onlyState R q) reached-below
 
-  reached-stays : reachedWord R 64 q ≡ reachedWord R 63 q
-  unfolding reachedWord reachedIn
-  reached-stays =
-      word-stays R (round R (endMarks R)) (reach-keeps R) (reach-alike R) (onlyState R q) reached-below 63 (reach-never-used-up R rule q start)
-
-  module _ (set next : ℕ) (before : set ≡ reachedWord R 63 q) (then : next ≡ reachedWord R 64 q) where
-    reached-same : next ≡ set → adds R (reachedIn R 63 q) (reachedIn R 64 q) ≡ false
-    unfolding reachedWord reachedIn
-    reached-same = same-adds R (round R (endMarks R)) (reach-keeps R) (reach-alike R) (onlyState R q) reached-below 63 set next before then
-
-    reached-other : (next ≡ set → ⊥) → adds R (reachedIn R 63 q) (reachedIn R 64 q) ≡ true
-    unfolding reachedWord reachedIn
-    reached-other = other-adds R (round R (endMarks R)) (reach-keeps R) (reach-alike R) (onlyState R q) reached-below 63 set next before then
+  -- more rounds than there are states are enough
+  enough : (i : ℕ) → R .states ≤ suc i → wordIn R i q ≡ reachedWord R q
+  unfolding wordIn reachedWord
+  enough i few =
+      same-word (reachedIn R i q) (reachMarks R q) (λ p.
+      same-truth _ _ (λ m. marks-are-reach R rule q start p .1 (reached-in R rule q start i few p .0 m))
+      (λ m. reached-in R rule q start i few p .1 (marks-are-reach R rule q start p .0 m)))
 
 -- ---- the same of every rule whose moves a table has
 
 -- the word of so many rounds from q
 abbrev pub AfterRounds : List ℕ → ℕ → ℕ → ℕ → Type 0
-AfterRounds moves q i word = (R : Rule) → IsRule R → Moves R (endMarks R) moves → q < R .states → word ≡ reachedWord R i q
+AfterRounds moves q i word = (R : Rule) → IsRule R → Moves R (endMarks R) moves → q < R .states → word ≡ wordIn R i q
+
+-- the word of Reach(q)
+abbrev pub Found : List ℕ → ℕ → ℕ → Type 0
+Found moves q word = (R : Rule) → IsRule R → Moves R (endMarks R) moves → q < R .states → word ≡ reachedWord R q
 
 module _ (moves : List ℕ) (q : ℕ) where
   pub after-none : (word : ℕ) → word ≡ 2 ^ q → AfterRounds moves q 0 word
@@ -151,41 +139,16 @@ module _ (moves : List ℕ) (q : ℕ) where
       → AfterRounds moves q (i + 1) next
   after-next i word next small s after R rule good start =
       reached-next-word R rule q start moves good i next small (rw (after R rule good start) at s)
-      ∙ ap (λ (k : ℕ). reachedWord R k q) (sym (add-one i))
+      ∙ ap (λ (k : ℕ). wordIn R k q) (sym (add-one i))
 
   -- where the next round changes nothing
   pub after-rest : (i word next : ℕ) → next < 2 ^ 64 → StandsFor next (joined moves word) → AfterRounds moves q i word → next ≡ word
       → (j : ℕ) → i ≤ j → AfterRounds moves q j word
   after-rest i word next small s after e j l R rule good start =
       let now = after R rule good start in
-      let then = after-next i word next small s after R rule good start ∙ ap (λ (k : ℕ). reachedWord R k q) (add-one i) in
+      let then = after-next i word next small s after R rule good start ∙ ap (λ (k : ℕ). wordIn R k q) (add-one i) in
       now ∙ sym (reached-rests R rule q start i (sym then ∙ e ∙ now) j l)
 
--- ---- the last round
-
-module _ (moves reach : List ℕ) where
-  -- what the last round does from q
-  abbrev pub LastAdds : ℕ → Bool → Type 0
-  LastAdds q b =
-      (R : Rule) → IsRule R → Moves R (endMarks R) moves → Reached R 63 reach → q < R .states
-      → adds R (reachedIn R 63 q) (reachedIn R 64 q) ≡ b
-
-  module _ (q next : ℕ) (small : next < 2 ^ 64) (s : StandsFor next (joined moves (getD reach q 0))) where
-    last-word : (R : Rule) → IsRule R → Moves R (endMarks R) moves → Reached R 63 reach → q < R .states → next ≡ reachedWord R 64 q
-    unfolding Reached
-    last-word R rule good reached start = reached-next-word R rule q start moves good 63 next small (rw (reached q start) at s)
-
-    pub last-same : next ≡ getD reach q 0 → LastAdds q false
-    unfolding Reached
-    last-same e R rule good reached start =
-        reached-same R rule q start (getD reach q 0) next (reached q start) (last-word R rule good reached start) e
-
-    pub last-other : (next ≡ getD reach q 0 → ⊥) → LastAdds q true
-    unfolding Reached
-    last-other ne R rule good reached start =
-        reached-other R rule q start (getD reach q 0) next (reached q start) (last-word R rule good reached start) ne
-
--- the last round adds nothing, so the words before it are those after it
-pub reached-last : (R : Rule) → IsRule R → (reach : List ℕ) → Reached R 63 reach → Reached R 64 reach
-unfolding Reached
-reached-last R rule reach reached q h = reached q h ∙ sym (reached-stays R rule q h)
+  -- after 63 rounds the word is that of Reach
+  pub after-all : (word : ℕ) → AfterRounds moves q 63 word → Found moves q word
+  after-all word after R rule good start = after R rule good start ∙ enough R rule q start 63 (most-states rule)

@@ -7,7 +7,7 @@ use lib.ListN.{getD}
 use Rattle.meaning.specs.Answers.{_<?_}
 use Rattle.meaning.specs.RuleFile as format
 use Rattle.meaning.specs.RuleFile.{none, letterMove, treeMove}
-use Rattle.meaning.specs.SkipBook.{anyBelow, goesTo, noneOr, oneMove, endsIn, reachedIn, holdMarks, wordOf, bit}
+use Rattle.meaning.specs.SkipBook.{anyBelow, goesTo, noneOr, oneMove, reachMarks, holdMarks, wordOf, bit}
 use Rattle.rule.specs.declared.tables.Move.{Move}
 use Rattle.rule.specs.declared.tables.Move.the-variants as move
 
@@ -52,21 +52,12 @@ firstOf n test p = p <? n && test p
 unfoldable pub changing : format.Rule → ℕ → ℕ → Bool
 changing R u = firstOf (R .states) (λ p. not (noneOr u (treeMove R u p)))
 
--- the word of the states in which a tree can end, as far as so many rounds find them
-unfoldable pub endsWord : format.Rule → ℕ → ℕ
-endsWord R i = wordOf (endsIn R i)
+-- the word of Reach(q), and a table of these words
+unfoldable pub reachedWord : format.Rule → ℕ → ℕ
+reachedWord R q = wordOf (reachMarks R q)
 
--- that word, and a table of the moves with these lower states
-pub record EndsFound (R : format.Rule) (i set : ℕ) (moves : List ℕ) : Type 0 where
-  pub setIs : set ≡ endsWord R i
-  pub movesAre : Moves R (endsIn R i) moves
-
--- the word of the states reached from q in so many rounds, and a table of these words
-unfoldable pub reachedWord : format.Rule → ℕ → ℕ → ℕ
-reachedWord R i q = wordOf (reachedIn R i q)
-
-unfoldable pub Reached : format.Rule → ℕ → List ℕ → Type 0
-Reached R i table = (q : ℕ) → q < R .states → getD table q 0 ≡ reachedWord R i q
+unfoldable pub Reached : format.Rule → List ℕ → Type 0
+Reached R table = (q : ℕ) → q < R .states → getD table q 0 ≡ reachedWord R q
 
 -- a table that has the word of hold(u) for each state u
 unfoldable pub Holds : format.Rule → List ℕ → Type 0

@@ -49,7 +49,7 @@ fn hold_word(reach: &[u64; 64], states: u8, change: u64) -> u64
 // hold(u) for each state u.
 fn hold_words(file: &[u8], rule: Rule, reach: &[u64; 64]) -> [u64; 64]
     requires { ⌜ RuleOf (now file) rule ⌝ }
-    ensures { λ r. ⌜ (length r ≡ 64) × (Reached (ruleOf (now (file .entry))) 64 (now (reach .entry)) → Holds (ruleOf (now (file .entry))) r) ⌝ }
+    ensures { λ r. ⌜ (length r ≡ 64) × (Reached (ruleOf (now (file .entry))) (now (reach .entry)) → Holds (ruleOf (now (file .entry))) r) ⌝ }
 {
     let mut table = no_sets();
     let states = rule.states;
@@ -79,7 +79,7 @@ fn write_words(book: &mut [u64], still: u64, holds: &[u64; 64], states: u8)
 pub fn write_book(file: &[u8], rule: Rule, reach: &[u64; 64], book: &mut [u64]) -> u32
     requires { ⌜ RuleOf (now file) rule ⌝ }
     requires { ⌜ rule .states < length (now book) ⌝ }
-    requires { ⌜ Reached (ruleOf (now file)) 64 (now reach) ⌝ }
+    requires { ⌜ Reached (ruleOf (now file)) (now reach) ⌝ }
     ensures { λ r. ⌜ r ≡ ones (wordOf (stillMarks (ruleOf (now (file .entry))))) ⌝ }
     ensures { λ r. ⌜ now (book .exit) ≡ bookOf (ruleOf (now (file .entry))) ++ drop (rule .states + 1) (now (book .entry)) ⌝ }
 {

@@ -1,10 +1,10 @@
 -- `book::rounds::reach_from` meets its contract. The loop's invariant: the word is that of so many rounds. Where a round changes
--- nothing, the word is that of all rounds after it. Assumes nothing.
+-- nothing, the word is that of all rounds after it; and 63 are enough. Assumes nothing.
 use borrow.Author.Needs.{needs}
 use mathlib.Core.Path.{_≡_}
 use Prim.Native.Nat.{_≤_, _-_}
 use native.Mathlib.Omega.{arith}
-use Rattle.book.proofs.InRounds.{AfterRounds, after-none, after-next, after-rest}
+use Rattle.book.proofs.InRounds.{AfterRounds, after-none, after-next, after-rest, after-all}
 use Rattle.book.proofs.rounds.reach_from.Statement.{statement}
 use Rattle.book.proofs.rounds.reach_from.Tie as tie
 
@@ -28,7 +28,7 @@ returns : tie.Need-returns Inv-loop μ-loop
 returns c =
     let loop = c .before .before .before .loop in
     let round = c .before .with-members in
-    after-rest _ _ (loop .round) (loop .set) (round .result) (round .ok) (round .ensures) (loop .inv .1) (c .if1 .taken) 63 (loop .inv .0)
+    after-all _ _ _ (after-rest _ _ (loop .round) (loop .set) (round .result) (round .ok) (round .ensures) (loop .inv .1) (c .if1 .taken) 63 (loop .inv .0))
 
 add-round : tie.Need-add-round Inv-loop μ-loop
 add-round c = omega arith
@@ -46,7 +46,7 @@ returns-2 : tie.Need-returns-2 Inv-loop μ-loop
 returns-2 c =
     let loop = c .before .loop in
     let last : loop .round ≡ 63 = omega arith in
-    rw last at (loop .inv .1)
+    after-all _ _ _ (rw last at (loop .inv .1))
 
 pub reach-from-spec : {M : Type 1} → statement M
 reach-from-spec =

@@ -5,12 +5,12 @@ use Prim.Native.Nat.{_≤_, _-_}
 use native.Mathlib.Omega.{arith}
 use Rattle.book.specs.Sets.{Reached}
 use Rattle.book.proofs.Standing.{Filled, filled-first, filled-next}
-use Rattle.book.proofs.InRounds.{AfterRounds}
+use Rattle.book.proofs.InRounds.{Found}
 use Rattle.book.proofs.rounds.reach_from_all.Statement.{statement}
 use Rattle.book.proofs.rounds.reach_from_all.Tie as tie
 
 abbrev Inv-loop : tie.InvT-loop
-Inv-loop moves states table₀ state₀ table state = (state ≤ states) × Filled (λ q w. AfterRounds moves q 63 w) state table
+Inv-loop moves states table₀ state₀ table state = (state ≤ states) × Filled (λ q w. Found moves q w) state table
 
 abbrev μ-loop : tie.MeasureT-loop
 μ-loop moves states table₀ state₀ table state = states - state

@@ -16,7 +16,7 @@ use Rattle.book.proofs.words.hold_words.Tie as tie
 
 abbrev Inv-loop : tie.InvT-loop
 Inv-loop file rule reach table₀ states upper₀ table upper =
-    (upper ≤ rule .states) × Filled (λ u w. Reached (ruleOf file) 64 reach → w ≡ wordOf (holdMarks (ruleOf file) u)) upper table
+    (upper ≤ rule .states) × Filled (λ u w. Reached (ruleOf file) reach → w ≡ wordOf (holdMarks (ruleOf file) u)) upper table
 
 abbrev μ-loop : tie.MeasureT-loop
 μ-loop file rule reach table₀ states upper₀ table upper = rule .states - upper

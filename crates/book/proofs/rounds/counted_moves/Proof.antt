@@ -1,4 +1,4 @@
--- `book::rounds::tree_ends` meets its contract. The loop's invariant: the word is that of so many rounds, and the table is the one
+-- `book::rounds::counted_moves` meets its contract. The loop's invariant: the word is that of so many rounds, and the table is the one
 -- for it as lower states. Where a round changes nothing, both are those of all rounds after it. Assumes nothing.
 use borrow.Author.Needs.{needs}
 use mathlib.Core.Path.{_≡_}
@@ -8,11 +8,10 @@ use native.Mathlib.Omega.{arith}
 use denote.Ref.{now}
 use Rattle.meaning.specs.RuleFile.{IsRule, ruleOf}
 use Rattle.meaning.proofs.rulefile.Accepted.{accepted-is-rule}
-use Rattle.book.specs.Sets.{endsWord, EndsFound}
 use Rattle.book.proofs.Walked.{states-are, start-goes}
-use Rattle.book.proofs.EndSet.{first-end-word, first-states, first-found, next-end-word, added-states, next-found, rest-found}
-use Rattle.book.proofs.rounds.tree_ends.Statement.{statement}
-use Rattle.book.proofs.rounds.tree_ends.Tie as tie
+use Rattle.book.proofs.EndSet.{endsWord, EndsFound, first-end-word, first-states, first-found, next-end-word, added-states, next-found, rest-found, all-found}
+use Rattle.book.proofs.rounds.counted_moves.Statement.{statement}
+use Rattle.book.proofs.rounds.counted_moves.Tie as tie
 
 abbrev Inv-loop : tie.InvT-loop
 Inv-loop file rule set₀ moves₀ round₀ set moves round = (round ≤ 63) × EndsFound (ruleOf file) round set moves
@@ -66,7 +65,7 @@ returns : tie.Need-returns Inv-loop μ-loop
 returns c =
     let loop = c .before .before .before .before .loop in
     let start = c .before .before .before .before .before .before .before .before .before .before .before in
-    rest-found _ (the-rule start) (loop .round) (loop .set) (loop .moves) (loop .inv .1) _ (next (c .before)) (c .if1 .taken) 63 (loop .inv .0)
+    all-found _ (the-rule start) _ _ (rest-found _ (the-rule start) (loop .round) (loop .set) (loop .moves) (loop .inv .1) _ (next (c .before)) (c .if1 .taken) 63 (loop .inv .0))
 
 with-trees-requires-2 : tie.Need-with-trees-requires-2 Inv-loop μ-loop
 with-trees-requires-2 c κs =
@@ -91,11 +90,12 @@ loop-again c =
 returns-2 : tie.Need-returns-2 Inv-loop μ-loop
 returns-2 c =
     let loop = c .before .loop in
+    let start = c .before .before .before .before .before .before .before .before in
     let last : loop .round ≡ 63 = omega arith in
-    rw last at (loop .inv .1)
+    all-found _ (the-rule start) _ _ (rw last at (loop .inv .1))
 
-pub tree-ends-spec : {M : Type 1} → statement M
-tree-ends-spec =
+pub counted-moves-spec : {M : Type 1} → statement M
+counted-moves-spec =
     tie.close
     (tie.spec
     Inv-loop
