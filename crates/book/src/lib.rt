@@ -1,8 +1,9 @@
-// The making of skip books, a part of opening: it finds the states in which a tree can end and then Reach in rounds in its own
-// room, and writes the book last.
+// The making of skip books, a part of opening: it finds the states in which a tree can end, and then word by word what the book
+// holds. It keeps that set and one more.
+mod ends;
 mod moves;
-mod rounds;
 mod sets;
+mod sweeps;
 mod words;
 
 use meaning::Refusal;
@@ -35,7 +36,6 @@ pub fn make_book(file: &[u8], rule: Rule, book: &mut [u64]) -> Made
             place: 0,
         });
     }
-    let moves = rounds::counted_moves(file, rule);
-    let reach = rounds::reach_from_all(&moves, states);
-    Made::Still(words::write_book(file, rule, &reach, book))
+    let lowers = ends::tree_ends(file, rule);
+    Made::Still(words::write_book(file, rule, lowers, book))
 }

@@ -75,14 +75,14 @@ module _ (R : Rule) (rule : IsRule R) where
     λ f. below-all (R .states) _ (λ p l. implies (marked (reachMarks R q) p) (test p) (λ m. f p (reach-of q h p .0 m))),
   )
 
-  still-is : (q : ℕ) → q < R .states → (marked (stillMarks R) q ≡ true) ↔ Still R q
+  pub still-is : (q : ℕ) → q < R .states → (marked (stillMarks R) q ≡ true) ↔ Still R q
   unfolding stillMarks Still
   still-is q h =
       let both = all-of-reach (λ p. p =? q) q h in
       let at = marked-below (R .states) (λ q. allBelow (R .states) (λ p. not (marked (reachMarks R q) p) || p =? q)) q h in
       iff at (λ e p r. eqb-true p q (both .0 e p r), λ f. both .1 (λ p r. eq-eqb p q (f p r)))
 
-  hold-is : (u p : ℕ) → p < R .states → (marked (holdMarks R u) p ≡ true) ↔ Hold R u p
+  pub hold-is : (u p : ℕ) → p < R .states → (marked (holdMarks R u) p ≡ true) ↔ Hold R u p
   unfolding holdMarks Hold
   hold-is u p h =
       let both = all-of-reach (λ p′. noneOr u (treeMove R u p′)) p h in
