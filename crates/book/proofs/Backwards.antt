@@ -3,15 +3,14 @@
 use mathlib.Core.Path.{_≡_, refl, sym, ap, _∙_, subst}
 use mathlib.Core.Logic.{_⊎_, inl, inr, ⊎-elim, _↔_}
 use mathlib.Core.Bool.{Bool, true, false, _&&_}
-use Prim.Native.Nat.{ℕ, zero, suc, _+_, _-_, _^_, _≤_, _<_}
+use Prim.Native.Nat.{ℕ, _+_, _-_, _^_, _≤_, _<_}
 use native.Mathlib.Nat.{not-suc-le-zero, eq-or-lt-of-le}
 use native.Mathlib.Omega.{arith}
 use native.Mathlib.Numerals.{add-one}
 use lib.Bits.{bitOr}
-use Rattle.meaning.specs.Answers.{_=?_}
 use Rattle.meaning.specs.RuleFile.{Rule, IsRule, Move, noMove, to, letterMove, treeMove}
 use Rattle.meaning.specs.SkipBook.{CanEndTree, Reach, endMarks, wordOf, bit}
-use Rattle.meaning.proofs.laws.Answered.{and-true, both-true, or-false}
+use Rattle.meaning.proofs.laws.Answered.{and-true, or-false}
 use Rattle.meaning.proofs.laws.Truths.{truth, or-cases, or-true-left, or-true-right, true-is-not-false}
 use Rattle.meaning.proofs.laws.Bools.{last-or-below, any-below, no-below-any}
 use Rattle.meaning.proofs.skipbook.Reaching.{letter-below, tree-below, ends-below, reach-itself, reach-letter, reach-tree, reach-within, reach-least}
@@ -120,7 +119,7 @@ met-then first second =
     }
 
 -- each state has its place in a sweep, and no state is left out
-place-below : (n : ℕ) (down : Bool) (i : ℕ) → i < n → placeOf n down i < n
+pub place-below : (n : ℕ) (down : Bool) (i : ℕ) → i < n → placeOf n down i < n
 unfolding placeOf
 place-below n true i h = omega arith
 place-below n false i h = h

@@ -1,20 +1,23 @@
 -- The words of the book. Still: no move leads to another state. hold(u): what is left without the states that lead to one whose
 -- tree move with u exists and is not u.
-use mathlib.Core.Path.{_≡_, refl, sym, ap, ap₂, _∙_, subst}
+use mathlib.Core.Path.{_≡_, refl, sym, ap, ap₂, _∙_}
 use mathlib.Core.Logic.{⊎-elim, _↔_}
 use mathlib.Core.Bool.{Bool, true, false, not, _&&_, xor}
-use mathlib.Core.List.{List}
-use Prim.Native.Nat.{ℕ, _-_, _^_, _≤_, _<_}
+use mathlib.Core.List.{List, [], _∷_, _++_}
+use Prim.Native.Nat.{ℕ, _+_, _-_, _^_, _≤_, _<_}
+use native.Mathlib.Nat.{not-suc-le-zero}
+use native.Mathlib.Numerals.{one-add, add-one}
 use native.Mathlib.Omega.{arith}
 use lib.Bits.{bitXor}
-use lib.ListN.{length}
+use lib.ListN.{length, getD, drop, set}
+use lib.Seq.{paste, take-all}
 use borrow.Author.Tests.{eqb-true, eq-eqb, ltb-true, lt-ltb, not-true}
 use Rattle.meaning.specs.Answers.{_=?_, _<?_}
 use Rattle.meaning.specs.RuleFile.{Rule, IsRule, treeMove}
-use Rattle.meaning.specs.SkipBook.{Still, Hold, endMarks, marked, noneOr, stillMarks, holdMarks, wordOf, bit}
+use Rattle.meaning.specs.SkipBook.{Still, Hold, endMarks, listed, marked, noneOr, stillMarks, holdMarks, wordOf, bit, bookOf}
 use Rattle.meaning.proofs.laws.Answered.{and-true, both-true, not-false-true}
 use Rattle.meaning.proofs.laws.Truths.{truth, same-truth, true-is-not-false, not-true-false}
-use Rattle.meaning.proofs.laws.Bools.{listed-length}
+use Rattle.meaning.proofs.laws.Bools.{listed-length, listed-at}
 use Rattle.meaning.proofs.skipbook.Marks.{marked-true}
 use Rattle.meaning.proofs.skipbook.Reaching.{letter-below, tree-below, reach-below, reach-least}
 use Rattle.meaning.proofs.skipbook.Rounds.{most-states}
@@ -141,3 +144,26 @@ module _ (R : Rule) (rule : IsRule R) (lowers : ℕ) (are : lowers ≡ wordOf (e
         (λ m. let low = hold-state u p m in
         let out : bit met p ≡ false = not-true-false _ (λ t. leads-unheld p (exactly p low .0 t) (hold-is R rule u p low .0 m)) in
         both-true (lt-ltb p (R .states) low) (ap not out)))
+
+-- ---- how they are written
+
+pub holdWords : Rule → List ℕ
+holdWords R = listed (R .states) (λ u. wordOf (holdMarks R u))
+
+pub hold-words-long : (R : Rule) → length (holdWords R) ≡ R .states
+unfolding holdWords
+hold-words-long R = listed-length (R .states) (λ u. wordOf (holdMarks R u))
+
+pub hold-word-at : (R : Rule) (u : ℕ) → u < R .states → getD (holdWords R) u 0 ≡ wordOf (holdMarks R u)
+unfolding holdWords
+hold-word-at R u h = listed-at (R .states) (λ v. wordOf (holdMarks R v)) u 0 h
+
+-- still in front, then the hold words, and then what stood past them
+pub book-written : (R : Rule) (book : List ℕ) (still n : ℕ) → 0 < length book → still ≡ wordOf (stillMarks R) → n ≡ R .states
+    → paste (set book 0 still) 1 (holdWords R) n ≡ bookOf R ++ drop (n + 1) book
+unfolding bookOf holdWords
+book-written R [] still n h is all = absurd (not-suc-le-zero h)
+book-written R (x ∷ book) still n h is all =
+    ap₂ (λ (w : ℕ) (l : List ℕ). w ∷ (l ++ drop (1 + n) (still ∷ book))) is (take-all n (holdWords R) (omega (arith, hold-words-long R, all)))
+    ∙ ap (λ (l : List ℕ). bookOf R ++ l)
+    (ap (λ (k : ℕ). drop k (still ∷ book)) (one-add n) ∙ sym (ap (λ (k : ℕ). drop k (x ∷ book)) (add-one n)))

@@ -12,6 +12,7 @@ use Rattle.meaning.specs.Answers.{_=?_}
 use Rattle.meaning.specs.RuleFile as format
 use Rattle.meaning.specs.RuleFile.{Move, none, asMove, letterMove, treeMove, treeStartMove, ruleOf}
 use Rattle.meaning.specs.SkipBook.{anyBelow, goesTo, noneOr, bit}
+use Rattle.meaning.proofs.skipbook.Reaching.{initial-below}
 use Rattle.meaning.proofs.skipbook.Rounds.{most-states}
 use Rattle.meaning.proofs.skipbook.Bits.{bit-zero, bit-past, cleared-less}
 use Rattle.meaning.proofs.rulefile.Accepted.{accepted-is-rule}
@@ -112,6 +113,10 @@ module _ {file : List ℕ} {rule : Rule} (ok : RuleOf file rule) where
   -- a rule has at most 64 states
   pub few-states : rule .states ≤ 64
   few-states = omega (arith, most-states (accepted-is-rule file (ok .accepted)), states-are)
+
+  -- and one at least
+  pub has-states : 0 < rule .states
+  has-states = omega (arith, initial-below (accepted-is-rule file (ok .accepted)), states-are)
 
   -- what was found among the letter moves, and among the tree moves
   pub letter-is : (q a : ℕ) {found : tables.Move} → found ≡ moveIn LetterMoves (letterByte file (rule .letters) q a)

@@ -7,12 +7,12 @@ use rule::Rule;
 ghost use mathlib.Core.Path.{_≡_};
 ghost use mathlib.Core.Logic.{_↔_};
 ghost use mathlib.Core.Bool.{true, false};
-ghost use Prim.Native.Nat.{ℕ, _<_, _≤_};
+ghost use Prim.Native.Nat.{ℕ, _<_};
 ghost use Rattle.meaning.specs.RuleFile.{ruleOf};
 ghost use Rattle.meaning.specs.SkipBook.{endMarks, wordOf, bit};
 ghost use Rattle.rule.specs.Says.{RuleOf};
 ghost use Rattle.book.specs.Sets.{StatesOf};
-ghost use Rattle.book.specs.Sweeps.{Leads, Met, Outside, Visited, Swept, placeOf};
+ghost use Rattle.book.specs.Sweeps.{Leads, Visited, Swept, placeOf};
 
 // What a sweep leaves: the states met, and whether it met one that was not met before.
 struct SweptTo {

@@ -11,10 +11,9 @@ use Rattle.meaning.specs.RuleFile as format
 use Rattle.meaning.specs.RuleFile.{ruleOf}
 use Rattle.meaning.specs.Calls.{refusalSays}
 use Rattle.meaning.specs.SkipBook.{bookOf}
-use Rattle.meaning.proofs.rulefile.Accepted.{accepted-is-rule}
 use Rattle.meaning.proofs.skipbook.BookMade.{after-refused, after-given, always-made, short-made}
 use Rattle.book.specs.Says.{madeSays}
-use Rattle.book.proofs.Walked.{few-states, states-are}
+use Rattle.book.proofs.Walked.{states-are}
 use Rattle.book.proofs.make_book.Statement.{statement}
 use Rattle.book.proofs.make_book.Tie as tie
 
@@ -29,18 +28,13 @@ returns c =
     let short = short-made (ruleOf (now (start .args .file))) (now (start .args .book)) (omega (arith, states-are ok)) in
     (sym short, sym (after-refused _ _ _ short))
 
-counted-moves-requires : tie.Need-counted-moves-requires
-counted-moves-requires c κs = search needs
-
-reach-from-all-requires : tie.Need-reach-from-all-requires
-reach-from-all-requires c κs = few-states (c .before .before .before .before .before .pre)
+tree-ends-requires : tie.Need-tree-ends-requires
+tree-ends-requires c κs = search needs
 
 write-book-requires : tie.Need-write-book-requires
 write-book-requires c κs =
-    let start = c .before .before .before .before .before .before .before .before in
-    let ok = start .pre in
-    let moves = c .before .before .before .before .counted-moves in
-    (ok, (omega arith, c .before .before .reach-from-all .ensures _ (accepted-is-rule _ (ok .accepted)) (moves .ensures) (states-are ok)))
+    let start = c .before .before .before .before .before in
+    (start .pre, (omega arith, c .before .tree-ends .ensures))
 
 same-length : tie.Need-same-length
 same-length c = search needs
@@ -49,7 +43,7 @@ returns-2 : tie.Need-returns-2
 unfolding madeSays
 returns-2 c =
     let written = c .before .before .write-book in
-    let start = c .before .before .before .before .before .before .before .before .before .before .before in
+    let start = c .before .before .before .before .before .before .before .before in
     let R : format.Rule = ruleOf (now (start .args .file)) in
     let made = always-made R (now (start .args .book)) (omega (arith, states-are (start .pre))) in (
       ap given (written .ensures .0) ∙ sym made,
@@ -60,11 +54,4 @@ returns-2 c =
 pub make-book-spec : {M : Type 1} → statement M
 make-book-spec =
     tie.close
-    (tie.spec
-    cast-if1
-    returns
-    counted-moves-requires
-    reach-from-all-requires
-    write-book-requires
-    same-length
-    returns-2)
+    (tie.spec cast-if1 returns tree-ends-requires write-book-requires same-length returns-2)

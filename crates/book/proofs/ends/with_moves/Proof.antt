@@ -1,7 +1,6 @@
 -- `book::ends::with_moves` meets its contract. The loop's invariant: what is joined so far, with what the members that are left
 -- lead to, is all that is to be joined, and those that are left are states. The measure is the rest, which is less without its
 -- lowest member. Assumes nothing.
-use borrow.Author.Needs.{needs}
 use Prim.Native.Nat.{_<_}
 use native.Mathlib.Omega.{arith}
 use lib.Count.{trailingZeros}

@@ -2,7 +2,6 @@
 -- Assumes nothing.
 use borrow.Author.Needs.{needs}
 use mathlib.Core.Path.{ap, _∙_}
-use Prim.Native.Nat.{ℕ}
 use Rattle.meaning.specs.SkipBook.{bit}
 use Rattle.book.proofs.Walked.{leads-as}
 use Rattle.book.proofs.moves.is_in.Statement.{statement}

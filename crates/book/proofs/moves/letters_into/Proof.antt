@@ -68,7 +68,8 @@ returns-2 c =
     let start = c .before .before .before .before in
     let loop = c .before .before .loop in
     let last : loop .letter ≡ start .args .rule .letters = omega arith in
-    sym (rw (letters-are (start .pre .0), sym last) (loop .inv .1))
+    sym (ap (λ (k : ℕ). anyBelow k (λ a. leadsTo (start .args .set) (letterMove (ruleOf (now (start .args .file))) (start .args .state) a)))
+    (letters-are (start .pre .0) ∙ sym last) ∙ loop .inv .1)
 
 pub letters-into-spec : {M : Type 1} → statement M
 letters-into-spec =

@@ -1,8 +1,8 @@
 -- `book::moves::trees_into` meets its contract. The loop's invariant: some lower state leads into the set exactly if one of those
 -- that are left does. The measure is the rest, which is less without its lowest member. Assumes nothing.
 use borrow.Author.Needs.{needs}
-use mathlib.Core.Path.{_≡_, refl, sym, ap, _∙_}
-use Prim.Native.Nat.{ℕ, _<_}
+use mathlib.Core.Path.{_≡_, sym, ap, _∙_}
+use Prim.Native.Nat.{_<_}
 use native.Mathlib.Omega.{arith}
 use lib.Count.{trailingZeros}
 use denote.Ref.{now}

@@ -1,7 +1,6 @@
 -- `book::sweeps::place_of` meets its contract, by cases.
 -- Assumes nothing.
 use borrow.Author.Needs.{needs}
-use mathlib.Core.Path.{sym}
 use Rattle.book.specs.Sweeps.{placeOf}
 use Rattle.book.proofs.sweeps.place_of.Statement.{statement}
 use Rattle.book.proofs.sweeps.place_of.Tie as tie
