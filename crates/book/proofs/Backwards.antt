@@ -15,7 +15,7 @@ use Rattle.meaning.proofs.laws.Truths.{truth, or-cases, or-true-left, or-true-r
 use Rattle.meaning.proofs.laws.Bools.{last-or-below, any-below, no-below-any}
 use Rattle.meaning.proofs.skipbook.Reaching.{letter-below, tree-below, ends-below, reach-itself, reach-letter, reach-tree, reach-within, reach-least}
 use Rattle.meaning.proofs.skipbook.Rounds.{marks-are-ends}
-use Rattle.meaning.proofs.skipbook.Bits.{bit-word, bit-or, bit-only, more-bits}
+use Rattle.meaning.proofs.skipbook.Bits.{bit-zero, bit-word, bit-or, bit-only, more-bits}
 use borrow.Author.Tests.{eqb-true, eq-eqb}
 use Rattle.book.specs.Sets.{StatesOf, leadsTo, lettersInto, treesInto, leadsInto}
 use Rattle.book.specs.Sweeps.{Leads, Met, Outside, Visited, Swept, placeOf}
@@ -34,6 +34,10 @@ leads-false set p {m} f e = rw (e, leadsTo) at f
 -- what is a member leads in, and so does what reaches one that leads in
 pub leads-member : (R : Rule) (set p : ℕ) → bit set p ≡ true → Leads R set p
 leads-member R set p e = record { end = p; reached = reach-itself; member = e }
+
+-- into the empty set nothing leads
+pub into-none : {R : Rule} (set p : ℕ) → Leads R set p → set ≡ 0 → bit set p ≡ true
+into-none set p leads e = true-is-not-false (ap (λ (w : ℕ). bit w (leads .end)) (sym e) ∙ leads .member) (bit-zero (leads .end))
 
 leads-on : {R : Rule} {set p p′ : ℕ} → Reach R p p′ → Leads R set p′ → Leads R set p
 leads-on first leads = record { end = leads .end; reached = reach-within first (leads .reached); member = leads .member }

@@ -77,6 +77,10 @@ pub fn leading_to(file: &[u8], rule: Rule, lowers: u64, set: u64) -> u64
     requires { ⌜ StatesOf (rule .states) set ⌝ }
     ensures { λ r. ⌜ StatesOf (rule .states) r × ((p : ℕ) → p < rule .states → (bit r p ≡ true) ↔ Leads (ruleOf (now (file .entry))) set p) ⌝ }
 {
+    // Nothing leads into the empty set.
+    if set == 0 {
+        return set;
+    }
     let mut met = set;
     let mut down = false;
     loop {
