@@ -13,11 +13,10 @@ use lib.Bits.{bitAnd, bitOr}
 use lib.Count.{trailingZeros}
 use borrow.Author.Tests.{ltb-true, ltb-false, lt-ltb, eqb-true, eq-eqb}
 use Rattle.meaning.specs.Answers.{_=?_, _<?_}
-use Rattle.meaning.specs.SkipBook.{anyBelow, listed, bit, marked, wordOf}
+use Rattle.meaning.specs.SkipBook.{anyBelow, bit, marked, wordOf}
 use Rattle.meaning.proofs.laws.Answered.{and-true, both-true}
 use Rattle.meaning.proofs.laws.Truths.{truth, same-truth, true-is-not-false, or-cases, or-true-left, or-true-right}
-use Rattle.meaning.proofs.laws.Bools.{last-or-below, below-any, any-below, any-below-fails, listed-length}
-use Rattle.meaning.proofs.skipbook.Marks.{marked-true, marked-below}
+use Rattle.meaning.proofs.laws.Bools.{last-or-below, below-any, any-below, any-below-fails}
 use Rattle.meaning.proofs.skipbook.Bits.{bit-zero, bit-or, bit-and, bit-only, bit-past, word-of, lowest, cleared, cleared-less}
 use Rattle.book.specs.Sets.{StandsFor, StatesOf, firstOf}
 
@@ -84,14 +83,6 @@ gather-no set i test out s =
     (λ t. let b = first-true i test p t in first-in (i + 1) test p (omega arith) (b .1))
     (λ t. let b = first-true (i + 1) test p t in
     ⊎-elim (λ same. true-is-not-false (ap test (sym same) ∙ b .1) out) (λ less. first-in i test p less (b .1)) (last-or-below (rw add-one at (b .0))))) s
-
--- a word that stands for the first n states that pass a test is the word of n marks
-pub first-word-of : (w n : ℕ) (test : ℕ → Bool) → w < 2 ^ 64 → n ≤ 64 → StandsFor w (firstOf n test) → w ≡ wordOf (listed n test)
-first-word-of w n test small few s =
-    stands-word w (listed n test) small (omega (arith, listed-length n test))
-    (stands-as w _ _ (λ p h. same-truth (firstOf n test p) (marked (listed n test) p)
-    (λ t. let b = first-true n test p t in marked-below n test p (b .0) ∙ b .1)
-    (λ m. let b = marked-true n test p m in first-in n test p (b .0) (b .1))) s)
 
 -- ---- the members one after the other
 

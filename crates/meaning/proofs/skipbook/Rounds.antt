@@ -8,33 +8,17 @@ use mathlib.Core.Bool.{Bool, true, false, not, _&&_, _||_, false≢true}
 use mathlib.Core.List.{List}
 use Prim.Native.Nat.{ℕ, zero, suc, _≤_, _<_}
 use native.Mathlib.Omega.{arith}
-use lib.ListN.{length}
 use borrow.Author.Tests.{leb-true, eqb-true, eq-eqb, not-true}
 use Rattle.meaning.specs.Answers.{_=?_, _≤?_}
-use Rattle.meaning.specs.RuleFile.{Rule, IsRule, Move, noMove, to, none, asMove, letterMove, treeMove, treeStartMove, isStates}
+use Rattle.meaning.specs.RuleFile.{Rule, IsRule, Move, noMove, to, none, letterMove, treeMove, treeStartMove, isStates}
 use Rattle.meaning.specs.SkipBook.{CanEndTree, startEnds, letterEnds, treeEnds, Reach, itself, byLetter, byTree, anyBelow, marked, goesTo, oneMove, round, rounds, startMarks, endRound, endMarks, onlyState, reachMarks}
-use Rattle.meaning.proofs.laws.Answered.{if-true, if-false, and-true, both-true}
+use Rattle.meaning.proofs.laws.Answered.{and-true, both-true}
 use Rattle.meaning.proofs.skipbook.Reaching.{letter-below, tree-below, start-below, ends-below, no-start-no-ends, reach-below}
 use Rattle.meaning.proofs.laws.Truths.{truth, same-truth, or-cases, or-true-left, or-true-right, true-is-not-false, not-true-false, not-without, never-both}
-use Rattle.meaning.proofs.laws.Bools.{below-any, any-below, no-below-any, any-below-fails, any-below-same, listed-length, listed-same}
+use Rattle.meaning.proofs.laws.Bools.{below-any, any-below, no-below-any, any-below-fails, any-below-same, listed-same}
 use Rattle.meaning.proofs.skipbook.Marks.{marked-below, marked-true, countBelow, count-most, count-less, count-some}
 
 -- ---- moves
-
-pub none-is : {x : ℕ} → x ≡ none → asMove x ≡ noMove
-unfolding asMove
-none-is {x} e = if-true noMove (to x) (eq-eqb x none e)
-
--- a move to a state is a byte that is not none, and that state
-pub move-to : (x : ℕ) {q : ℕ} → asMove x ≡ to q → ((x =? none) ≡ false) × (x ≡ q)
-unfolding asMove
-move-to x {q} e = ⊎-elim no-move some (truth (x =? none))
-  where
-    no-move : (x =? none) ≡ true → ((x =? none) ≡ false) × (x ≡ q)
-    no-move t = let z : _≡_ {A = ℕ} 0 1 = cc (if-true noMove (to x) t) in absurd (omega arith)
-
-    some : (x =? none) ≡ false → ((x =? none) ≡ false) × (x ≡ q)
-    some f = (f, cc (if-false noMove (to x) f))
 
 pub goes-to : (p : ℕ) {m : Move} → m ≡ to p → goesTo p m ≡ true
 unfolding goesTo
@@ -80,10 +64,6 @@ module _ (R : Rule) (lowers : List Bool) where
           let b = and-true (marked lowers (s .0)) _ (s .2) in
           trees (s .0) (s .1) (b .0) (goes-true p′ _ (b .1))
 
-  -- it leads to a state
-  pub one-below : IsRule R → (p p′ : ℕ) → oneMove R lowers p p′ ≡ true → p′ < R .states
-  one-below rule p p′ e = one-by p p′ e (λ a h. letter-below rule p a) (λ lower h c. tree-below rule p lower)
-
   -- ---- one round
 
   pub round-at : (marks : List Bool) (p : ℕ) → p < R .states
@@ -106,10 +86,6 @@ module _ (R : Rule) (lowers : List Bool) where
       let b = and-true (marked marks (s .0)) _ (s .2) in
       moved (s .0) (b .0) (b .1))
       (or-cases (marked marks p′) _ (round-true marks p′ e .1))
-
-  pub round-length : (marks : List Bool) → length (round R lowers marks) ≡ R .states
-  unfolding round
-  round-length marks = listed-length (R .states) _
 
   -- a round keeps the marks
   pub round-keeps : (marks : List Bool) (p : ℕ) → p < R .states → marked marks p ≡ true → marked (round R lowers marks) p ≡ true
@@ -242,10 +218,6 @@ module _ (R : Rule) where
   unfolding startMarks
   start-true p e = goes-true p (treeStartMove R) (marked-true (R .states) (λ q. goesTo q (treeStartMove R)) p e .1)
 
-  pub start-length : length (startMarks R) ≡ R .states
-  unfolding startMarks
-  start-length = listed-length (R .states) _
-
   pub start-is-marked : IsRule R → {p : ℕ} → treeStartMove R ≡ to p → marked (startMarks R) p ≡ true
   unfolding startMarks
   start-is-marked rule {p} e =
@@ -327,10 +299,6 @@ module _ (R : Rule) where
   pub only-start : (q : ℕ) → q < R .states → marked (onlyState R q) q ≡ true
   unfolding onlyState
   only-start q h = marked-below (R .states) (λ s. s =? q) q h ∙ eq-eqb q q refl
-
-  pub only-length : (q : ℕ) → length (onlyState R q) ≡ R .states
-  unfolding onlyState
-  only-length q = listed-length (R .states) _
 
   pub reached-first : (q : ℕ) → reachedIn R zero q ≡ onlyState R q
   unfolding reachedIn rounds
