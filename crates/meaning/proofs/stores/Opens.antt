@@ -20,7 +20,7 @@ use Rattle.meaning.proofs.laws.Answered.{giving-given, giving-passes, g
 use Rattle.meaning.proofs.skipbook.BookLong.{long-given}
 use Rattle.meaning.proofs.skipbook.BookMade.{book-length, made-is-book, after-given, always-made}
 use Rattle.meaning.proofs.stores.ReadingCheck.{check-passes}
-use Rattle.meaning.proofs.stores.KeptReading.{IsReading, reading-is}
+use Rattle.meaning.proofs.stores.KeptReading.{IsReading, reading-is, mark-in}
 
 -- ---- how it goes
 
@@ -101,6 +101,8 @@ fresh-reading file book store e =
       skipsSettled = λ h. absurd (not-suc-le-zero h);
       nested = omega arith;
       looksIn = omega arith;
+      firstIn = mark-in _;
+      firstsIn = λ i h. absurd (not-suc-le-zero h);
     }
 
 pub fresh-checked : (file book : List ℕ) (store : List Level) {R : Rule} → checkRule file ≡ given R → R .states + 1 ≤ length book
