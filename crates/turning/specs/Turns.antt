@@ -6,7 +6,7 @@ use mathlib.Core.List.{List}
 use lib.ListN.{length}
 use Rattle.meaning.specs.Answers.{Answer, given, refused, if_then_else_, _≤?_}
 use Rattle.meaning.specs.FullReading as full
-use Rattle.meaning.specs.FullReading.{stays, stores, ends, mostEvents, noMoveNumber}
+use Rattle.meaning.specs.FullReading.{stays, stores, names, ends, mostEvents, noMoveNumber}
 use Rattle.meaning.specs.RuleFile.{ruleOf}
 use Rattle.meaning.specs.Calls.{Stored, notReading}
 use Rattle.meaning.specs.Skipping.{held, settled}
@@ -26,6 +26,7 @@ use Rattle.turning.specs.declared.turns.LookedUp.the-variants as look
 unfoldable pub turnSays : Reading → Turn → Answer full.Turn
 turnSays before (turn.Stays r) = given (stays r)
 turnSays before (turn.Stores l r) = given (stores l r)
+turnSays before (turn.Names l r) = given (names l r)
 turnSays before (turn.Ends r) = given (ends r)
 turnSays before (turn.Refused number) = refused number (before .taken)
 

@@ -90,6 +90,15 @@ fn take_event(
                 level,
             }
         }
+        Turn::Names(level, after) => Advance {
+            going: Going {
+                reading: after,
+                next: following,
+                ended: Feeding::AllTaken,
+            },
+            place: top_place(reading),
+            level,
+        },
         Turn::Refused(number) => {
             let place = reading.taken as usize;
             let ended = Feeding::Refused(Refusal { number, place });

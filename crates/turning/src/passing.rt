@@ -236,6 +236,7 @@ fn left_at(reading: Reading, skip: u32, from: usize, next: usize) -> PassedTo
     PassedTo {
         reading: Reading {
             state: reading.state,
+            first: reading.first,
             depth: reading.depth,
             skip,
             taken,
