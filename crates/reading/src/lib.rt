@@ -48,7 +48,7 @@ pub fn open(file: &[u8], book: &mut [u64]) -> Opened
     }
 }
 
-// The reading that opening gave, or five zeros where it refused.
+// The reading that opening gave, or six zeros where it refused.
 pub fn first_of(opened: Opened) -> Reading
     ensures { λ r. ⌜ r ≡ openedReading opened ⌝ }
 {
@@ -56,6 +56,7 @@ pub fn first_of(opened: Opened) -> Reading
         Opened::Ready(opening) => opening.reading,
         Opened::Refused(_) => Reading {
             state: 0,
+            first: 0,
             depth: 0,
             skip: 0,
             taken: 0,
