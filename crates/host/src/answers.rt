@@ -69,11 +69,12 @@ pub fn lay_written(written: Written, answer: &mut [u64]) -> bool
 fn lay_counted(number: u8, place: usize, count: u32, reading: Reading, answer: &mut [u64]) -> bool
     ensures { λ r. ⌜ Laid (number ∷ place ∷ count ∷ readingValues reading) (now (answer .entry)) r (now (answer .exit)) ⌝ }
 {
-    let numbers: [u64; 8] = [
+    let numbers: [u64; 9] = [
         number as u64,
         place as u64,
         count as u64,
         reading.state as u64,
+        reading.first as u64,
         reading.depth as u64,
         reading.skip as u64,
         reading.taken as u64,

@@ -1,6 +1,6 @@
 // What a host in C or Rust links: the calls of rule and reading on numbers and slices. Each call lays its answer into a
 // lent slice of 64-bit numbers: the number of the refusal or 0, its place or 0, and then the values that were given. It returns
-// whether they fitted: into a slice that is too short nothing is laid. Eight numbers are room enough for every call.
+// whether they fitted: into a slice that is too short nothing is laid. Nine numbers are room enough for every call.
 mod answers;
 mod lay;
 
@@ -62,7 +62,7 @@ pub extern "C" fn venticapro_write_rule(
     lay_written(written, answer)
 }
 
-// Open: how many states are still, and the fresh reading, its state and its four counts; the book lies in the words lent. A host
+// Open: how many states are still, and the fresh reading, its state, the mark and its four counts; the book lies in the words lent. A host
 // hands that reading and that book on to feeding and finish. One that wants full reading opens too, and then feeds and finishes
 // with a book of n+1 zeros.
 #[no_mangle]
@@ -74,13 +74,14 @@ pub extern "C" fn venticapro_open(file: &[u8], book: &mut [u64], answer: &mut [u
 }
 
 // Feeding: the events it took and the reading after them, also where an event is refused. The level store is lent as records:
-// the state above the level, and the place of its opening.
+// the state above the level, its first letter or the mark, and the place of its opening.
 #[no_mangle]
 pub extern "C" fn venticapro_feed(
     file: &[u8],
     book: &[u64],
     ceiling: u32,
     state: u8,
+    first: u16,
     depth: u32,
     skip: u32,
     taken: u32,
@@ -89,10 +90,11 @@ pub extern "C" fn venticapro_feed(
     events: &[u16],
     answer: &mut [u64],
 ) -> bool
-    ensures { λ r. ⌜ FeedLaid (feedCall (now (file .entry)) (now (book .entry)) ceiling (readingFrom state depth skip taken looks) (now (levels .entry)) (now (events .entry))) (readingFrom state depth skip taken looks) (now (answer .entry)) r (now (levels .exit)) (now (answer .exit)) ⌝ }
+    ensures { λ r. ⌜ FeedLaid (feedCall (now (file .entry)) (now (book .entry)) ceiling (readingFrom state first depth skip taken looks) (now (levels .entry)) (now (events .entry))) (readingFrom state first depth skip taken looks) (now (answer .entry)) r (now (levels .exit)) (now (answer .exit)) ⌝ }
 {
     let reading = Reading {
         state,
+        first,
         depth,
         skip,
         taken,
@@ -108,6 +110,7 @@ pub extern "C" fn venticapro_finish(
     file: &[u8],
     book: &[u64],
     state: u8,
+    first: u16,
     depth: u32,
     skip: u32,
     taken: u32,
@@ -115,10 +118,11 @@ pub extern "C" fn venticapro_finish(
     levels: &[Level],
     answer: &mut [u64],
 ) -> bool
-    ensures { λ r. ⌜ Laid (answerNumbers judgedValues (finishCall (now (file .entry)) (now (book .entry)) (readingFrom state depth skip taken looks) (now (levels .entry)))) (now (answer .entry)) r (now (answer .exit)) ⌝ }
+    ensures { λ r. ⌜ Laid (answerNumbers judgedValues (finishCall (now (file .entry)) (now (book .entry)) (readingFrom state first depth skip taken looks) (now (levels .entry)))) (now (answer .entry)) r (now (answer .exit)) ⌝ }
 {
     let reading = Reading {
         state,
+        first,
         depth,
         skip,
         taken,
