@@ -70,14 +70,15 @@ fn feed_linked(
 ) -> Fed {
     let mut answer = [0; ANSWER];
     assert!(host::feed(file, book, LARGEST, first, store, events, &mut answer));
-    let [number, place, took, state, depth, skip, taken, looks] = answer;
+    let [number, place, took, state, depth, skip, taken, looks, first] = answer;
     let counts = [depth, skip, taken, looks].map(|count| count as u32);
     let [depth, skip, taken, looks] = counts;
     let outcome = match number {
         0 => Outcome::AllTaken,
         _ => Outcome::Refused(reader::Refusal::new(number as u8, place)),
     };
-    let reading = Reading { state: state as u8, depth, skip, taken, looks };
+    let (state, first) = (state as u8, first as u16);
+    let reading = Reading { state, depth, skip, taken, looks, first };
     Fed { took: took as usize, reading, outcome }
 }
 

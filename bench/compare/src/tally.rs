@@ -10,6 +10,7 @@ pub const WRITER: Can = &[3, 4, 14];
 pub const OPEN: Can = &[1, 2, 3, 4, 5, 6];
 pub const FEED: Can = &[1, 2, 3, 4, 5, 6, 7, 8, 9, 10, 11, 13, 16, 17, 18];
 pub const FINISH: Can = &[1, 2, 3, 4, 5, 6, 12, 13];
+pub const PATH: Can = &[1, 2, 3, 4, 5, 6, 13, 14];
 pub const WHOLE: Can = &[1, 2, 3, 4, 5, 6, 7, 8, 10, 11, 12, 17, 18];
 pub const LINE: Can = &[7, 8, 10, 11, 12, 17, 18];
 

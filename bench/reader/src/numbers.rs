@@ -30,7 +30,7 @@ pub const NO_LETTER_MOVE: u8 = 11;
 pub const OPEN_AT_FINISH: u8 = 12;
 /// Not a reading; place 0.
 pub const NOT_A_READING: u8 = 13;
-/// Output too short; place: bytes needed.
+/// Output too short; place: bytes needed, of the path the 16-bit numbers needed.
 pub const OUTPUT_SHORT: u8 = 14;
 /// Rounds used up; place 0. With n at most 64 it is never given: Reach and the
 /// set of the tree start begin with one state, and the latter with none if there
