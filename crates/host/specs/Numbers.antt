@@ -40,9 +40,9 @@ ruleValues R = R .states ∷ R .initial ∷ R .«tree_start» ∷ R .letters ∷
 abbrev pub countValue : ℕ → List ℕ
 countValue count = count ∷ []
 
--- the state, the top's first letter or the mark, the stored depth, the skip depth, the events taken and the looks made
+-- the state, the stored depth, the skip depth, the events taken, the looks made, and the top's first letter or the mark
 abbrev pub readingValues : Reading → List ℕ
-readingValues r = r .state ∷ r .first ∷ r .depth ∷ r .skip ∷ r .taken ∷ r .looks ∷ []
+readingValues r = r .state ∷ r .depth ∷ r .skip ∷ r .taken ∷ r .looks ∷ r .first ∷ []
 
 -- how many states are still, and the fresh reading
 abbrev pub openingValues : Opening → List ℕ
@@ -64,8 +64,8 @@ wentNumbers before w = fedNumbers (w .ended) (eventsTaken before w) (w .last .re
 -- ---- a reading, which a host hands over as six numbers
 
 abbrev pub readingFrom : ℕ → ℕ → ℕ → ℕ → ℕ → ℕ → Reading
-readingFrom state first depth skip taken looks =
-    record { state = state; first = first; depth = depth; skip = skip; taken = taken; looks = looks }
+readingFrom state depth skip taken looks first =
+    record { state = state; depth = depth; skip = skip; taken = taken; looks = looks; first = first }
 
 -- ---- what feeding and the whole-document call say of the lent answer and of what else was lent
 

@@ -74,11 +74,11 @@ fn lay_counted(number: u8, place: usize, count: u32, reading: Reading, answer: &
         place as u64,
         count as u64,
         reading.state as u64,
-        reading.first as u64,
         reading.depth as u64,
         reading.skip as u64,
         reading.taken as u64,
         reading.looks as u64,
+        reading.first as u64,
     ];
     lay(&numbers, answer)
 }

@@ -62,7 +62,7 @@ pub extern "C" fn venticapro_write_rule(
     lay_written(written, answer)
 }
 
-// Open: how many states are still, and the fresh reading, its state, the mark and its four counts; the book lies in the words lent. A host
+// Open: how many states are still, and the fresh reading, its state, its four counts and the mark; the book lies in the words lent. A host
 // hands that reading and that book on to feeding and finish. One that wants full reading opens too, and then feeds and finishes
 // with a book of n+1 zeros.
 #[no_mangle]
@@ -81,24 +81,24 @@ pub extern "C" fn venticapro_feed(
     book: &[u64],
     ceiling: u32,
     state: u8,
-    first: u16,
     depth: u32,
     skip: u32,
     taken: u32,
     looks: u32,
+    first: u16,
     levels: &mut [Level],
     events: &[u16],
     answer: &mut [u64],
 ) -> bool
-    ensures { λ r. ⌜ FeedLaid (feedCall (now (file .entry)) (now (book .entry)) ceiling (readingFrom state first depth skip taken looks) (now (levels .entry)) (now (events .entry))) (readingFrom state first depth skip taken looks) (now (answer .entry)) r (now (levels .exit)) (now (answer .exit)) ⌝ }
+    ensures { λ r. ⌜ FeedLaid (feedCall (now (file .entry)) (now (book .entry)) ceiling (readingFrom state depth skip taken looks first) (now (levels .entry)) (now (events .entry))) (readingFrom state depth skip taken looks first) (now (answer .entry)) r (now (levels .exit)) (now (answer .exit)) ⌝ }
 {
     let reading = Reading {
         state,
-        first,
         depth,
         skip,
         taken,
         looks,
+        first,
     };
     let fed = feed(file, book, ceiling, reading, &mut *levels, events);
     lay_fed(fed, answer)
@@ -110,23 +110,23 @@ pub extern "C" fn venticapro_finish(
     file: &[u8],
     book: &[u64],
     state: u8,
-    first: u16,
     depth: u32,
     skip: u32,
     taken: u32,
     looks: u32,
+    first: u16,
     levels: &[Level],
     answer: &mut [u64],
 ) -> bool
-    ensures { λ r. ⌜ Laid (answerNumbers judgedValues (finishCall (now (file .entry)) (now (book .entry)) (readingFrom state first depth skip taken looks) (now (levels .entry)))) (now (answer .entry)) r (now (answer .exit)) ⌝ }
+    ensures { λ r. ⌜ Laid (answerNumbers judgedValues (finishCall (now (file .entry)) (now (book .entry)) (readingFrom state depth skip taken looks first) (now (levels .entry)))) (now (answer .entry)) r (now (answer .exit)) ⌝ }
 {
     let reading = Reading {
         state,
-        first,
         depth,
         skip,
         taken,
         looks,
+        first,
     };
     let end = finish(file, book, reading, levels);
     lay_end(end, answer)

@@ -15,6 +15,8 @@ use Rattle.meaning.specs.declared.Opened.{Opened}
 use Rattle.meaning.specs.declared.Opened.the-variants as opened
 use Rattle.meaning.specs.declared.End.{End}
 use Rattle.meaning.specs.declared.End.the-variants as end
+use Rattle.meaning.specs.declared.Traced.{Traced}
+use Rattle.meaning.specs.declared.Traced.the-variants as traced
 use Rattle.meaning.specs.declared.Feeding.{Feeding}
 use Rattle.meaning.specs.declared.Feeding.the-variants as feeding
 use Rattle.meaning.specs.Answers.{Answer, given, refused, refuse_at_when_otherwise_, _andThen_, _giving_, _<?_, _=?_, if_then_else_}
@@ -47,6 +49,10 @@ openedSays (opened.Refused r) = refusalSays r
 unfoldable pub endSays : End → Answer Judged
 endSays (end.Judged j) = given (record { class = verdictSays (j .verdict); state = j .state })
 endSays (end.Refused r) = refusalSays r
+
+unfoldable pub tracedSays : Traced → Answer ℕ
+tracedSays (traced.Letters count) = given count
+tracedSays (traced.Refused r) = refusalSays r
 
 unfoldable pub feedingSays : Feeding → Answer Unit
 feedingSays feeding.AllTaken = given tt
@@ -224,11 +230,11 @@ pathCount r = r .depth + 1
 
 -- It takes what finish takes and a lent slice of 16-bit numbers, and answers the count. Refusals: rule, 6, 13, then 14, whose place
 -- is the count of numbers needed.
+unfoldable pub pathFits : Reading → ℕ → Answer ℕ
+pathFits r room = refuse 14 at pathCount r when room <? pathCount r otherwise given (pathCount r)
+
 unfoldable pub pathCall : List ℕ → List ℕ → Reading → List Level → List ℕ → Answer ℕ
-pathCall file book r store lent =
-    readingCheck file book r store giving λ R.
-    refuse 14 at pathCount r when length lent <? pathCount r otherwise
-    given (pathCount r)
+pathCall file book r store lent = readingCheck file book r store giving λ R. pathFits r (length lent)
 
 -- what it leaves in the lent slice: the letters, and the rest as it was; or, refused, what was there
 unfoldable pub pathAfter : Answer ℕ → Reading → List Level → List ℕ → List ℕ

@@ -29,8 +29,8 @@ pub enum End {
 // The mark of a level that has no letter yet. With 256 letters 255 is a real one, so a first letter is 16 bits wide.
 pub const NO_LETTER: u16 = 65535;
 
-// A reading: the current state, the first letter of the top level or the mark, the stored depth, the skip depth, the events
-// taken and the looks made.
+// A reading: the current state, the stored depth, the skip depth, the events taken, the looks made, and the first letter of the
+// top level or the mark.
 pub struct Reading {
     pub state: u8,
     pub first: u16,
@@ -58,6 +58,12 @@ pub struct Opening {
 // What opening answers: a reading that is ready to be fed, with the still count, or a refusal.
 pub enum Opened {
     Ready(Opening),
+    Refused(Refusal),
+}
+
+// What the path answers: how many letters were laid, or a refusal.
+pub enum Traced {
+    Letters(usize),
     Refused(Refusal),
 }
 

@@ -5,6 +5,7 @@ mod document;
 mod ending;
 mod feeding;
 mod opening;
+mod tracing;
 
 use checking::admit;
 use checking::rule_in;
@@ -21,13 +22,18 @@ use meaning::Fed;
 use meaning::Level;
 use meaning::Opened;
 use meaning::Reading;
+use meaning::Traced;
 use opening::open_rule;
 use rule::Checked;
 use rule::Rule;
+use tracing::lay_path;
+use tracing::letters_in;
+use tracing::traced_of;
 use turning::advancing::top_place;
 ghost use mathlib.Core.Path.{_≡_};
-ghost use Rattle.meaning.specs.Calls.{openedSays, openCall, openedBook, endSays, feedCall, finishCall, wholeDocument};
+ghost use Rattle.meaning.specs.Calls.{openedSays, openCall, openedBook, endSays, feedCall, finishCall, pathCall, pathLaid, wholeDocument};
 ghost use Rattle.reading.specs.Feeding.{FedIs};
+ghost use Rattle.reading.specs.Tracing.{PathIs};
 ghost use Rattle.reading.specs.Whole.{openedReading, ReadIs};
 
 // What feeding answers over levels of one's own: the answer, and the levels after it.
@@ -91,6 +97,24 @@ pub fn finish(file: &[u8], book: &[u64], reading: Reading, levels: &[Level]) -> 
     let place = top_place(reading);
     let top = level_at(levels, place);
     end_checked(file, checked, reading, top)
+}
+
+// The path to where a reading stands: the top's first letter, then that of each stored level from the outermost to the innermost,
+// marks included, laid into the lent slice; the rest of it stays. After a refused feed it shows the way to the refused event.
+pub fn path(
+    file: &[u8],
+    book: &[u64],
+    reading: Reading,
+    levels: &[Level],
+    letters: &mut [u16],
+) -> Traced
+    ensures { λ r. ⌜ PathIs (pathCall (now (file .entry)) (now (book .entry)) reading (now (levels .entry)) (now (letters .entry))) (pathLaid (now (file .entry)) (now (book .entry)) reading (now (levels .entry)) (now (letters .entry))) r (now (letters .exit)) ⌝ }
+{
+    let checked = admit(file, book, reading, levels);
+    let traced = traced_of(checked, reading, letters.len());
+    let count = letters_in(traced);
+    lay_path(levels, reading.first, count, &mut *letters);
+    traced
 }
 
 // Feed over levels of one's own, for a caller that holds them by value.

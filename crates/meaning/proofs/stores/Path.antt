@@ -11,7 +11,7 @@ use Rattle.meaning.specs.declared.Level.{Level}
 use Rattle.meaning.specs.Answers.{Answer, given, refused, _<?_}
 use Rattle.meaning.specs.FullReading.{blank}
 use Rattle.meaning.specs.RuleFile.{Rule}
-use Rattle.meaning.specs.Calls.{readingCheck, firstsOf, pathOf, pathCount, pathCall, pathAfter, pathLaid}
+use Rattle.meaning.specs.Calls.{readingCheck, firstsOf, pathOf, pathCount, pathFits, pathCall, pathAfter, pathLaid}
 use Rattle.meaning.proofs.laws.Answered.{giving-given, refuse-given}
 use Rattle.meaning.proofs.stores.ReadingCheck.{check-says}
 use Rattle.meaning.proofs.stores.KeptReading.{is-reading}
@@ -53,7 +53,7 @@ pub record PathGiven (file book : List ℕ) (r : Reading) (store : List Level) (
 
 pub path-given : (file book : List ℕ) (r : Reading) (store : List Level) (lent : List ℕ) {count : ℕ}
     → pathCall file book r store lent ≡ given count → PathGiven file book r store lent count
-unfolding pathCall
+unfolding pathCall pathFits
 path-given file book r store lent {count} e =
     let g = giving-given (readingCheck file book r store) _ e in
     let fourteen = refuse-given 14 (pathCount r) (length lent <? pathCount r) _ (g .2) in
