@@ -53,7 +53,8 @@ fn numbers<T>(answer: Result<T, Refusal>, values: impl Fn(T) -> Vec<u64>) -> Vec
 
 fn reading_values(reading: Reading) -> Vec<u64> {
     let counts = [reading.depth, reading.skip, reading.taken, reading.looks];
-    [vec![reading.state as u64], counts.map(u64::from).to_vec(), vec![reading.first as u64]].concat()
+    [vec![reading.state as u64], counts.map(u64::from).to_vec(), vec![reading.first as u64]]
+        .concat()
 }
 
 fn opening_values(opening: Opening) -> Vec<u64> {
