@@ -18,9 +18,8 @@ pub struct Opening {
     pub still: u32,
 }
 
-/// Opening: fills the book. In turn: rule, 6, 15 (never given, see
-/// [`numbers::ROUNDS`]). Words past n+1 stay; a refused call leaves the book
-/// untouched.
+/// Opening: fills the book. In turn: rule, 6. Words past n+1 stay; a refused call
+/// leaves the book untouched.
 pub fn open(rule_file: &[u8], book: &mut [u64]) -> Result<Opening, Refusal> {
     let rule = Rule::from_file(rule_file)?;
     if book.len() < rule.n + 1 {

@@ -100,7 +100,7 @@ short R book = refuses _ _ _ _ (omega arith) isGiven
 
 made : (R : format.Rule) (book : List ℕ) → Numbered (makeBook R book)
 unfolding makeBook
-made R book = follows _ _ (short R book) (refuses _ _ _ _ (omega arith) isGiven)
+made R book = follows _ _ (short R book) isGiven
 
 pub open-numbered : (file book : List ℕ) → Numbered (openCall file book)
 unfolding openCall

@@ -61,7 +61,7 @@ feedingSays (feeding.Refused r) = refusalSays r
 -- ---- open
 
 -- One call, in the place of the maker and the fresh reading: it fills the lent book and gives the fresh reading and how many
--- states are still. Refusals: the rule check, 6, 15.
+-- states are still. Refusals: the rule check, 6.
 unfoldable pub openCall : List ℕ → List ℕ → Answer Opening
 openCall file book =
     checkRule file giving λ R.
