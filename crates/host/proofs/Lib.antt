@@ -1,3 +1,4 @@
 pub mod Same
+pub mod Answered
 pub mod Called
 pub mod Numbered
