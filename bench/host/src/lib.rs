@@ -1,8 +1,7 @@
 //! The proved calls, linked from `target/staticlib/libhost.a`, as safe functions.
 //!
-//! Each call lays its answer into a lent slice of numbers: the number of the
-//! refusal or 0, its place or 0, and then the values that were given. It returns
-//! whether they fitted; into a slice that is too short nothing is laid.
+//! Each call lays its answer into a lent array of numbers: the number of the
+//! refusal or 0, its place or 0, then the values that were given, and then zeros.
 //!
 //! To the calls a slice is a pointer and a length, one after the other. Nothing is
 //! asked of a caller but that the slices are slices and those written to are apart
@@ -12,8 +11,11 @@ mod store;
 
 pub use store::{feed, finish, path, read_document, Store};
 
-/// Room enough for the answer of every call.
-pub const ANSWER: usize = 9;
+/// How many numbers an answer has.
+pub const ANSWER: usize = 16;
+
+/// What a call lays its answer into.
+pub type Answer = [u64; ANSWER];
 
 /// The numbers and tables that the writer is given.
 #[derive(Clone, Copy, Debug)]
@@ -28,13 +30,14 @@ pub struct Tables<'a> {
 }
 
 mod exported {
+    use super::Answer;
+
     unsafe extern "C" {
         pub fn venticapro_check_rule(
             file: *const u8,
             file_length: usize,
-            answer: *mut u64,
-            answer_length: usize,
-        ) -> bool;
+            answer: *mut Answer,
+        );
 
         pub fn venticapro_write_rule(
             states: u8,
@@ -49,36 +52,33 @@ mod exported {
             classes_length: usize,
             output: *mut u8,
             output_length: usize,
-            answer: *mut u64,
-            answer_length: usize,
-        ) -> bool;
+            answer: *mut Answer,
+        );
 
         pub fn venticapro_open(
             file: *const u8,
             file_length: usize,
             book: *mut u64,
             book_length: usize,
-            answer: *mut u64,
-            answer_length: usize,
-        ) -> bool;
+            answer: *mut Answer,
+        );
     }
 }
 
 /// The rule check. Values: n, initial state, tree start, k.
-pub fn check_rule(file: &[u8], answer: &mut [u64]) -> bool {
+pub fn check_rule(file: &[u8], answer: &mut Answer) {
     // SAFETY: see the head of this file.
     unsafe {
         exported::venticapro_check_rule(
             file.as_ptr(),
             file.len(),
-            answer.as_mut_ptr(),
-            answer.len(),
+            answer,
         )
     }
 }
 
 /// The writer. Value: the count of bytes.
-pub fn write_rule(tables: Tables, output: &mut [u8], answer: &mut [u64]) -> bool {
+pub fn write_rule(tables: Tables, output: &mut [u8], answer: &mut Answer) {
     // SAFETY: see the head of this file.
     unsafe {
         exported::venticapro_write_rule(
@@ -94,15 +94,14 @@ pub fn write_rule(tables: Tables, output: &mut [u8], answer: &mut [u64]) -> bool
             tables.classes.len(),
             output.as_mut_ptr(),
             output.len(),
-            answer.as_mut_ptr(),
-            answer.len(),
+            answer,
         )
     }
 }
 
 /// Opening, which fills the book. Values: how many states are still, then the fresh
 /// reading: state, stored depth, skip depth, events taken, looks.
-pub fn open(file: &[u8], book: &mut [u64], answer: &mut [u64]) -> bool {
+pub fn open(file: &[u8], book: &mut [u64], answer: &mut Answer) {
     // SAFETY: see the head of this file.
     unsafe {
         exported::venticapro_open(
@@ -110,8 +109,7 @@ pub fn open(file: &[u8], book: &mut [u64], answer: &mut [u64]) -> bool {
             file.len(),
             book.as_mut_ptr(),
             book.len(),
-            answer.as_mut_ptr(),
-            answer.len(),
+            answer,
         )
     }
 }

@@ -1,6 +1,7 @@
 //! The level store, and the calls that are lent one. How a store lies in memory is
 //! known here alone: other crates make one of records and ask for its records.
 
+use crate::Answer;
 use reader::{Level, Reading};
 
 /// One record as the calls have it: the state above the level, its first letter,
@@ -38,7 +39,7 @@ impl Store {
 }
 
 mod exported {
-    use super::Record;
+    use super::{Answer, Record};
 
     unsafe extern "C" {
         pub fn venticapro_feed(
@@ -57,9 +58,8 @@ mod exported {
             levels_length: usize,
             events: *const u16,
             events_length: usize,
-            answer: *mut u64,
-            answer_length: usize,
-        ) -> bool;
+            answer: *mut Answer,
+        );
 
         pub fn venticapro_finish(
             file: *const u8,
@@ -74,9 +74,8 @@ mod exported {
             first: u16,
             levels: *const Record,
             levels_length: usize,
-            answer: *mut u64,
-            answer_length: usize,
-        ) -> bool;
+            answer: *mut Answer,
+        );
 
         pub fn venticapro_path(
             file: *const u8,
@@ -93,9 +92,8 @@ mod exported {
             levels_length: usize,
             letters: *mut u16,
             letters_length: usize,
-            answer: *mut u64,
-            answer_length: usize,
-        ) -> bool;
+            answer: *mut Answer,
+        );
 
         pub fn venticapro_read_document(
             file: *const u8,
@@ -106,9 +104,8 @@ mod exported {
             levels_length: usize,
             events: *const u16,
             events_length: usize,
-            answer: *mut u64,
-            answer_length: usize,
-        ) -> bool;
+            answer: *mut Answer,
+        );
     }
 }
 
@@ -120,8 +117,8 @@ pub fn feed(
     reading: Reading,
     store: &mut Store,
     events: &[u16],
-    answer: &mut [u64],
-) -> bool {
+    answer: &mut Answer,
+) {
     // SAFETY: see the head of the crate.
     unsafe {
         exported::venticapro_feed(
@@ -140,8 +137,7 @@ pub fn feed(
             store.records.len(),
             events.as_ptr(),
             events.len(),
-            answer.as_mut_ptr(),
-            answer.len(),
+            answer,
         )
     }
 }
@@ -152,8 +148,8 @@ pub fn finish(
     book: &[u64],
     reading: Reading,
     store: &Store,
-    answer: &mut [u64],
-) -> bool {
+    answer: &mut Answer,
+) {
     // SAFETY: see the head of the crate.
     unsafe {
         exported::venticapro_finish(
@@ -169,8 +165,7 @@ pub fn finish(
             reading.first,
             store.records.as_ptr(),
             store.records.len(),
-            answer.as_mut_ptr(),
-            answer.len(),
+            answer,
         )
     }
 }
@@ -182,8 +177,8 @@ pub fn path(
     reading: Reading,
     store: &Store,
     letters: &mut [u16],
-    answer: &mut [u64],
-) -> bool {
+    answer: &mut Answer,
+) {
     // SAFETY: see the head of the crate.
     unsafe {
         exported::venticapro_path(
@@ -201,8 +196,7 @@ pub fn path(
             store.records.len(),
             letters.as_mut_ptr(),
             letters.len(),
-            answer.as_mut_ptr(),
-            answer.len(),
+            answer,
         )
     }
 }
@@ -213,8 +207,8 @@ pub fn read_document(
     book: &mut [u64],
     store: &mut Store,
     events: &[u16],
-    answer: &mut [u64],
-) -> bool {
+    answer: &mut Answer,
+) {
     // SAFETY: see the head of the crate.
     unsafe {
         exported::venticapro_read_document(
@@ -226,8 +220,7 @@ pub fn read_document(
             store.records.len(),
             events.as_ptr(),
             events.len(),
-            answer.as_mut_ptr(),
-            answer.len(),
+            answer,
         )
     }
 }

@@ -1,0 +1,333 @@
+/* Venticapro for programs in C11 and C++: the proved calls, as they lie in libventicapro.a.
+ *
+ * Slices. Every slice is a pointer and, after it, a length counted in elements, not in bytes. A slice of length 0 may have
+ * any pointer, NULL too. A pointer is aligned as its type asks. A slice that a call writes to, and the answer, must not
+ * overlap any other slice of that call; slices that are only read may overlap each other.
+ *
+ * Answers. Every call lays its answer into an array of VENTICAPRO_ANSWER numbers, which is never NULL: the number of the
+ * refusal or 0, its place or 0, the call's values, and zeros. The inline functions at the end of this header take it apart into structs.
+ * A refused call leaves the book, the output and the letters as they were; only feeding has values where it refuses.
+ *
+ * Nothing is kept between calls: no global state, no allocation, nothing to initialise or to free. Calls may be made from
+ * any thread, at the same time too, as long as no two of them are lent the same memory and one writes to it.
+ *
+ * Nothing that is lent has to be cleared before: not the answer, not the book for opening, not the level store.
+ *
+ * What each refusal means is in docs/NUMBERS.md; venticapro_sentence gives its words. */
+#ifndef VENTICAPRO_H
+#define VENTICAPRO_H
+
+#include <stddef.h>
+#include <stdint.h>
+
+#ifdef __cplusplus
+#define VENTICAPRO_ASSERT(holds, text) static_assert(holds, text)
+extern "C" {
+#else
+#define VENTICAPRO_ASSERT(holds, text) _Static_assert(holds, text)
+#endif
+
+/* The version of the calls that this header is for: venticapro_version() answers the archive's. */
+#define VENTICAPRO_VERSION 1
+
+/* How many numbers an answer has. */
+#define VENTICAPRO_ANSWER 16
+
+#define VENTICAPRO_MOST_STATES 64
+#define VENTICAPRO_MOST_LETTERS 256
+/* The longest rule file, in bytes, and the longest book, in words. */
+#define VENTICAPRO_LONGEST_FILE 20573
+#define VENTICAPRO_LONGEST_BOOK 65
+/* No move, no tree start: the byte of a rule's tables. */
+#define VENTICAPRO_NONE 255
+/* The mark: a level that has no first letter yet. */
+#define VENTICAPRO_NO_LETTER 65535
+/* Events: 0 opens a tree, 1 closes one, 2 + a is letter a. */
+#define VENTICAPRO_OPENS 0
+#define VENTICAPRO_CLOSES 1
+#define VENTICAPRO_LETTER(a) ((uint16_t)(2 + (a)))
+/* A ceiling that no count of looks passes. */
+#define VENTICAPRO_NO_CEILING UINT32_MAX
+
+/* One record of the level store: the state above the level, its first letter or the mark, and the place of its opening. */
+typedef struct venticapro_level {
+    uint8_t state;
+    uint16_t first;
+    uint32_t place;
+} venticapro_level;
+
+VENTICAPRO_ASSERT(sizeof(venticapro_level) == 8, "a level record has 8 bytes");
+VENTICAPRO_ASSERT(offsetof(venticapro_level, state) == 0, "the state above the level is byte 0");
+VENTICAPRO_ASSERT(offsetof(venticapro_level, first) == 2, "the first letter begins at byte 2");
+VENTICAPRO_ASSERT(offsetof(venticapro_level, place) == 4, "the place of the opening begins at byte 4");
+
+/* ---- the calls as they are exported */
+
+/* The version of the calls. */
+uint32_t venticapro_version(void);
+
+/* Checks a rule file. Values: states, initial state, tree start, letters. */
+void venticapro_check_rule(const uint8_t *file, size_t file_length, uint64_t answer[VENTICAPRO_ANSWER]);
+
+/* Writes a rule file into the output. Value: the count of bytes. With too short an output it refuses with 14, and the place
+ * is the count of bytes needed: an output of length 0 asks for the size. */
+void venticapro_write_rule(uint8_t states, uint8_t initial, uint8_t tree_start, uint16_t letters,
+                           const uint8_t *letter_moves, size_t letter_moves_length,
+                           const uint8_t *tree_moves, size_t tree_moves_length,
+                           const uint8_t *classes, size_t classes_length,
+                           uint8_t *output, size_t output_length, uint64_t answer[VENTICAPRO_ANSWER]);
+
+/* Opens a rule: makes its book in the words lent. Values: how many states are still, and the fresh reading. */
+void venticapro_open(const uint8_t *file, size_t file_length, uint64_t *book, size_t book_length,
+                     uint64_t answer[VENTICAPRO_ANSWER]);
+
+/* Feeds events. Values, also where it refuses: how many it took, and the reading after them. */
+void venticapro_feed(const uint8_t *file, size_t file_length, const uint64_t *book, size_t book_length, uint32_t ceiling,
+                     uint8_t state, uint32_t depth, uint32_t skip, uint32_t taken, uint32_t looks, uint16_t first,
+                     venticapro_level *levels, size_t levels_length, const uint16_t *events, size_t events_length,
+                     uint64_t answer[VENTICAPRO_ANSWER]);
+
+/* Ends a reading. Values: the class of the verdict, and the end state. */
+void venticapro_finish(const uint8_t *file, size_t file_length, const uint64_t *book, size_t book_length,
+                       uint8_t state, uint32_t depth, uint32_t skip, uint32_t taken, uint32_t looks, uint16_t first,
+                       const venticapro_level *levels, size_t levels_length, uint64_t answer[VENTICAPRO_ANSWER]);
+
+/* Lays the path to where a reading stands into the letters lent. Value: how many they are. With too few it refuses with 14,
+ * and the place is how many are needed; one more than the levels of the store are always enough. */
+void venticapro_path(const uint8_t *file, size_t file_length, const uint64_t *book, size_t book_length,
+                     uint8_t state, uint32_t depth, uint32_t skip, uint32_t taken, uint32_t looks, uint16_t first,
+                     const venticapro_level *levels, size_t levels_length, uint16_t *letters, size_t letters_length,
+                     uint64_t answer[VENTICAPRO_ANSWER]);
+
+/* Opens, feeds and finishes a whole document. Values: the class of the verdict, and the end state. */
+void venticapro_read_document(const uint8_t *file, size_t file_length, uint64_t *book, size_t book_length,
+                              venticapro_level *levels, size_t levels_length, const uint16_t *events, size_t events_length,
+                              uint64_t answer[VENTICAPRO_ANSWER]);
+
+/* ---- refusals */
+
+typedef enum venticapro_number {
+    VENTICAPRO_FINE = 0,
+    VENTICAPRO_BYTES_END = 1,
+    VENTICAPRO_WRONG_KIND = 2,
+    VENTICAPRO_WRONG_LENGTH = 3,
+    VENTICAPRO_OUT_OF_RANGE = 4,
+    VENTICAPRO_BYTES_AFTER = 5,
+    VENTICAPRO_SHORT_BOOK = 6,
+    VENTICAPRO_NOTHING_TO_CLOSE = 7,
+    VENTICAPRO_STORE_FULL = 8,
+    VENTICAPRO_AT_CEILING = 9,
+    VENTICAPRO_UNKNOWN_EVENT = 10,
+    VENTICAPRO_NO_LETTER_MOVE = 11,
+    VENTICAPRO_OPEN_AT_END = 12,
+    VENTICAPRO_NO_READING = 13,
+    VENTICAPRO_SHORT_OUTPUT = 14,
+    VENTICAPRO_TOO_MANY_EVENTS = 16,
+    VENTICAPRO_NO_TREE_START = 17,
+    VENTICAPRO_NO_TREE_MOVE = 18
+} venticapro_number;
+
+/* The words of a refusal's number, in which P stands for its place: those of docs/NUMBERS.md. NULL for any other number. */
+static inline const char *venticapro_sentence(uint64_t number)
+{
+    switch (number) {
+    case 1: return "the bytes end within a record's header or body; there are P of them";
+    case 2: return "a record of an unexpected kind; its kind field is at byte P (counted from 0)";
+    case 3: return "a record's length is not the one required; its length field is at byte P (counted from 0)";
+    case 4: return "a number out of range; its first byte is byte P (counted from 0)";
+    case 5: return "bytes after the last record; the first of them is byte P (counted from 0)";
+    case 6: return "the book has fewer than n+1 words";
+    case 7: return "event P (counted from 0) closes a level, and none is open";
+    case 8: return "event P (counted from 0) opens a level, and the level store is full";
+    case 9: return "event P (counted from 0) needs a look, and the looks are at the ceiling";
+    case 10: return "event P (counted from 0) is not known: it is k+2 or more";
+    case 11: return "event P (counted from 0) is a letter, and the rule has no letter move there";
+    case 12: return "a level is open at the end; event P (counted from 0) opened the innermost one that is stored, or, if none is stored, P events were taken";
+    case 13: return "the numbers handed in are not a reading of this rule with this book and level store";
+    case 14: return "the output is too short; P bytes are needed, or for the path P letters";
+    case 16: return "event P (counted from 0) is one too many: 4,294,967,295 are taken already";
+    case 17: return "event P (counted from 0) opens a level, and the rule has no tree start";
+    case 18: return "event P (counted from 0) closes a level, and the rule has no tree move there";
+    default: return NULL;
+    }
+}
+
+typedef struct venticapro_refusal {
+    uint64_t number; /* 0 if nothing was refused */
+    uint64_t place;
+} venticapro_refusal;
+
+/* ---- the same calls on structs: each answer begins with its refusal, and has its values if that one's number is 0 */
+
+/* Where a reading stands. A host hands it on unchanged, with the same rule, book and level store. */
+typedef struct venticapro_reading {
+    uint8_t state;
+    uint32_t depth;
+    uint32_t skip;
+    uint32_t taken;
+    uint32_t looks;
+    uint16_t first;
+} venticapro_reading;
+
+typedef struct venticapro_rule {
+    venticapro_refusal refusal;
+    uint8_t states;
+    uint8_t initial;
+    uint8_t tree_start;
+    uint16_t letters;
+} venticapro_rule;
+
+typedef struct venticapro_counted {
+    venticapro_refusal refusal;
+    size_t count;
+} venticapro_counted;
+
+typedef struct venticapro_opened {
+    venticapro_refusal refusal;
+    uint32_t still;
+    venticapro_reading reading;
+} venticapro_opened;
+
+/* Its values stand also where an event was refused. */
+typedef struct venticapro_fed {
+    venticapro_refusal refusal;
+    uint32_t took;
+    venticapro_reading reading;
+} venticapro_fed;
+
+typedef enum venticapro_class {
+    VENTICAPRO_OFF_SCHEMA = 0,
+    VENTICAPRO_REJECT = 1,
+    VENTICAPRO_ACCEPT = 2
+} venticapro_class;
+
+typedef struct venticapro_end {
+    venticapro_refusal refusal;
+    venticapro_class verdict;
+    uint8_t state;
+} venticapro_end;
+
+static inline venticapro_refusal venticapro_refusal_in(const uint64_t answer[VENTICAPRO_ANSWER])
+{
+    venticapro_refusal refusal;
+    refusal.number = answer[0];
+    refusal.place = answer[1];
+    return refusal;
+}
+
+static inline venticapro_counted venticapro_counted_in(const uint64_t answer[VENTICAPRO_ANSWER])
+{
+    venticapro_counted counted;
+    counted.refusal = venticapro_refusal_in(answer);
+    counted.count = (size_t)answer[2];
+    return counted;
+}
+
+static inline venticapro_reading venticapro_reading_in(const uint64_t answer[VENTICAPRO_ANSWER])
+{
+    venticapro_reading reading;
+    reading.state = (uint8_t)answer[3];
+    reading.depth = (uint32_t)answer[4];
+    reading.skip = (uint32_t)answer[5];
+    reading.taken = (uint32_t)answer[6];
+    reading.looks = (uint32_t)answer[7];
+    reading.first = (uint16_t)answer[8];
+    return reading;
+}
+
+static inline venticapro_end venticapro_end_in(const uint64_t answer[VENTICAPRO_ANSWER])
+{
+    venticapro_end end;
+    end.refusal = venticapro_refusal_in(answer);
+    end.verdict = (venticapro_class)answer[2];
+    end.state = (uint8_t)answer[3];
+    return end;
+}
+
+static inline venticapro_rule venticapro_rule_of(const uint8_t *file, size_t file_length)
+{
+    uint64_t answer[VENTICAPRO_ANSWER];
+    venticapro_rule rule;
+    venticapro_check_rule(file, file_length, answer);
+    rule.refusal = venticapro_refusal_in(answer);
+    rule.states = (uint8_t)answer[2];
+    rule.initial = (uint8_t)answer[3];
+    rule.tree_start = (uint8_t)answer[4];
+    rule.letters = (uint16_t)answer[5];
+    return rule;
+}
+
+static inline venticapro_counted venticapro_rule_to(uint8_t states, uint8_t initial, uint8_t tree_start, uint16_t letters,
+                                                    const uint8_t *letter_moves, size_t letter_moves_length,
+                                                    const uint8_t *tree_moves, size_t tree_moves_length,
+                                                    const uint8_t *classes, size_t classes_length,
+                                                    uint8_t *output, size_t output_length)
+{
+    uint64_t answer[VENTICAPRO_ANSWER];
+    venticapro_write_rule(states, initial, tree_start, letters, letter_moves, letter_moves_length, tree_moves,
+                          tree_moves_length, classes, classes_length, output, output_length, answer);
+    return venticapro_counted_in(answer);
+}
+
+static inline venticapro_opened venticapro_opened_of(const uint8_t *file, size_t file_length, uint64_t *book,
+                                                     size_t book_length)
+{
+    uint64_t answer[VENTICAPRO_ANSWER];
+    venticapro_opened opened;
+    venticapro_open(file, file_length, book, book_length, answer);
+    opened.refusal = venticapro_refusal_in(answer);
+    opened.still = (uint32_t)answer[2];
+    opened.reading = venticapro_reading_in(answer);
+    return opened;
+}
+
+static inline venticapro_fed venticapro_fed_by(const uint8_t *file, size_t file_length, const uint64_t *book,
+                                               size_t book_length, uint32_t ceiling, venticapro_reading reading,
+                                               venticapro_level *levels, size_t levels_length, const uint16_t *events,
+                                               size_t events_length)
+{
+    uint64_t answer[VENTICAPRO_ANSWER];
+    venticapro_fed fed;
+    venticapro_feed(file, file_length, book, book_length, ceiling, reading.state, reading.depth, reading.skip,
+                    reading.taken, reading.looks, reading.first, levels, levels_length, events, events_length, answer);
+    fed.refusal = venticapro_refusal_in(answer);
+    fed.took = (uint32_t)answer[2];
+    fed.reading = venticapro_reading_in(answer);
+    return fed;
+}
+
+static inline venticapro_end venticapro_end_of(const uint8_t *file, size_t file_length, const uint64_t *book,
+                                               size_t book_length, venticapro_reading reading,
+                                               const venticapro_level *levels, size_t levels_length)
+{
+    uint64_t answer[VENTICAPRO_ANSWER];
+    venticapro_finish(file, file_length, book, book_length, reading.state, reading.depth, reading.skip, reading.taken,
+                      reading.looks, reading.first, levels, levels_length, answer);
+    return venticapro_end_in(answer);
+}
+
+static inline venticapro_counted venticapro_path_to(const uint8_t *file, size_t file_length, const uint64_t *book,
+                                                    size_t book_length, venticapro_reading reading,
+                                                    const venticapro_level *levels, size_t levels_length,
+                                                    uint16_t *letters, size_t letters_length)
+{
+    uint64_t answer[VENTICAPRO_ANSWER];
+    venticapro_path(file, file_length, book, book_length, reading.state, reading.depth, reading.skip, reading.taken,
+                    reading.looks, reading.first, levels, levels_length, letters, letters_length, answer);
+    return venticapro_counted_in(answer);
+}
+
+static inline venticapro_end venticapro_document(const uint8_t *file, size_t file_length, uint64_t *book,
+                                                 size_t book_length, venticapro_level *levels, size_t levels_length,
+                                                 const uint16_t *events, size_t events_length)
+{
+    uint64_t answer[VENTICAPRO_ANSWER];
+    venticapro_read_document(file, file_length, book, book_length, levels, levels_length, events, events_length, answer);
+    return venticapro_end_in(answer);
+}
+
+#ifdef __cplusplus
+}
+#endif
+
+#endif
