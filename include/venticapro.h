@@ -51,15 +51,15 @@ extern "C" {
 
 /* One record of the level store: the state above the level, its first letter or the mark, and the place of its opening. */
 typedef struct venticapro_level {
-    uint8_t state;
+    uint8_t above;
     uint16_t first;
-    uint32_t place;
+    uint32_t opened;
 } venticapro_level;
 
 VENTICAPRO_ASSERT(sizeof(venticapro_level) == 8, "a level record has 8 bytes");
-VENTICAPRO_ASSERT(offsetof(venticapro_level, state) == 0, "the state above the level is byte 0");
+VENTICAPRO_ASSERT(offsetof(venticapro_level, above) == 0, "the state above the level is byte 0");
 VENTICAPRO_ASSERT(offsetof(venticapro_level, first) == 2, "the first letter begins at byte 2");
-VENTICAPRO_ASSERT(offsetof(venticapro_level, place) == 4, "the place of the opening begins at byte 4");
+VENTICAPRO_ASSERT(offsetof(venticapro_level, opened) == 4, "the place of the opening begins at byte 4");
 
 /* ---- the calls as they are exported */
 
