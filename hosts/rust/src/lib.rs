@@ -1,0 +1,259 @@
+//! Venticapro for programs in Rust: a rule is checked and opened, and a reader by it is fed events in blocks and ends in a
+//! verdict. The calls themselves are proved and linked from `libventicapro.a`; what is here only hands over and takes apart.
+//!
+//! ```
+//! use venticapro::{Rule, Tables, Verdict};
+//!
+//! // One state, which accepts; one letter, which stays in it; no trees.
+//! let file = Rule::write(Tables {
+//!     states: 1,
+//!     initial: 0,
+//!     tree_start: 255,
+//!     letters: 1,
+//!     letter_moves: &[0],
+//!     tree_moves: &[255],
+//!     classes: &[2],
+//! })?;
+//! let opened = Rule::check(&file)?.open()?;
+//! let mut reader = opened.reader(1024);
+//! reader.feed(&[2, 2])?;
+//! reader.feed(&[2])?;
+//! assert_eq!(reader.finish()?.verdict, Verdict::Accept);
+//! # Ok::<(), venticapro::Refusal>(())
+//! ```
+#![deny(missing_docs)]
+
+pub mod calls;
+mod refusal;
+
+pub use calls::Tables;
+use calls::{Answer, ANSWER};
+pub use refusal::Refusal;
+
+/// The version of the calls that this crate is for; [`calls::version`] answers that of the archive.
+pub const VERSION: u32 = 1;
+
+/// The words of the longest book: one for each of 64 states, and one more.
+pub const LONGEST_BOOK: usize = 65;
+
+/// The mark in [`Level::first`] and [`Reading::first`]: no letter yet.
+pub const NO_LETTER: u16 = 65535;
+
+/// A ceiling that no count of looks passes.
+pub const NO_CEILING: u32 = u32::MAX;
+
+/// One record of the level store, laid out as the calls have it.
+#[repr(C)]
+#[derive(Clone, Copy, Debug, Default, PartialEq, Eq)]
+pub struct Level {
+    /// The state above the level.
+    pub above: u8,
+    /// The level's first letter, or the mark.
+    pub first: u16,
+    /// The place of the event that opened it.
+    pub opened: u32,
+}
+
+const _: () = assert!(size_of::<Level>() == 8);
+
+/// Where a reading stands.
+#[derive(Clone, Copy, Debug, PartialEq, Eq)]
+pub struct Reading {
+    /// The state.
+    pub state: u8,
+    /// How many levels are stored.
+    pub depth: u32,
+    /// How many levels are open in a part that is passed over.
+    pub skip: u32,
+    /// The events taken.
+    pub taken: u32,
+    /// The looks made.
+    pub looks: u32,
+    /// The top's first letter, or the mark.
+    pub first: u16,
+}
+
+impl Reading {
+    /// The reading in the answer of opening or feeding: both have a count before it.
+    pub fn in_answer(answer: &Answer) -> Reading {
+        Reading {
+            state: answer[3] as u8,
+            depth: answer[4] as u32,
+            skip: answer[5] as u32,
+            taken: answer[6] as u32,
+            looks: answer[7] as u32,
+            first: answer[8] as u16,
+        }
+    }
+}
+
+/// The class of the end state.
+#[derive(Clone, Copy, Debug, PartialEq, Eq)]
+pub enum Verdict {
+    /// The document is not of the kind that the rule is for.
+    OffSchema = 0,
+    /// The document is refused.
+    Reject = 1,
+    /// The document is accepted.
+    Accept = 2,
+}
+
+/// The end of a reading.
+#[derive(Clone, Copy, Debug, PartialEq, Eq)]
+pub struct End {
+    /// The class of the end state.
+    pub verdict: Verdict,
+    /// The end state.
+    pub state: u8,
+}
+
+impl End {
+    fn in_answer(answer: &Answer) -> End {
+        let verdict = match answer[2] {
+            0 => Verdict::OffSchema,
+            1 => Verdict::Reject,
+            _ => Verdict::Accept,
+        };
+        End { verdict, state: answer[3] as u8 }
+    }
+}
+
+/// An accepted rule file.
+#[derive(Clone, Copy, Debug)]
+pub struct Rule<'a> {
+    file: &'a [u8],
+    /// How many states there are.
+    pub states: u8,
+    /// The state that a document begins in.
+    pub initial: u8,
+    /// The state that a tree begins in, if trees are taken.
+    pub tree_start: Option<u8>,
+    /// How many letters there are.
+    pub letters: u16,
+}
+
+impl<'a> Rule<'a> {
+    /// Checks the bytes of a rule file.
+    ///
+    /// ```
+    /// let refusal = venticapro::Rule::check(&[]).unwrap_err();
+    /// assert_eq!((refusal.number, refusal.place), (1, 0));
+    /// ```
+    pub fn check(file: &'a [u8]) -> Result<Rule<'a>, Refusal> {
+        let mut answer = [0; ANSWER];
+        calls::check_rule(file, &mut answer);
+        Refusal::unless_fine(&answer)?;
+        let tree_start = Some(answer[4] as u8).filter(|&state| state != 255);
+        let (states, initial, letters) = (answer[2] as u8, answer[3] as u8, answer[5] as u16);
+        Ok(Rule { file, states, initial, tree_start, letters })
+    }
+
+    /// The bytes of the rule file that has these numbers and tables.
+    pub fn write(tables: Tables) -> Result<Vec<u8>, Refusal> {
+        let mut answer = [0; ANSWER];
+        // an empty output asks for the size
+        calls::write_rule(tables, &mut [], &mut answer);
+        let needed = Refusal::unless_fine(&answer).map_or_else(Refusal::room, |()| Ok(0))?;
+        let mut file = vec![0; needed];
+        calls::write_rule(tables, &mut file, &mut answer);
+        Refusal::unless_fine(&answer)?;
+        Ok(file)
+    }
+
+    /// Makes the rule's book.
+    pub fn open(&self) -> Result<Opened<'a>, Refusal> {
+        let (mut book, mut answer) = ([0; LONGEST_BOOK], [0; ANSWER]);
+        calls::open(self.file, &mut book, &mut answer);
+        Refusal::unless_fine(&answer)?;
+        let (still, first) = (answer[2] as u32, Reading::in_answer(&answer));
+        Ok(Opened { file: self.file, book, still, first })
+    }
+}
+
+/// A rule with its book, by which any number of documents are read.
+#[derive(Clone, Debug)]
+pub struct Opened<'a> {
+    file: &'a [u8],
+    book: [u64; LONGEST_BOOK],
+    still: u32,
+    first: Reading,
+}
+
+impl<'a> Opened<'a> {
+    /// How many states are still.
+    pub fn still(&self) -> u32 {
+        self.still
+    }
+
+    /// A reader with room for so many open levels, which passes over what cannot matter.
+    pub fn reader(&self, levels: usize) -> Reader<'a> {
+        let levels = vec![Level::default(); levels];
+        Reader {
+            file: self.file,
+            book: self.book,
+            levels,
+            reading: self.first,
+            ceiling: NO_CEILING,
+        }
+    }
+
+    /// The same, but it reads every event in full: its book is of zeros.
+    pub fn full_reader(&self, levels: usize) -> Reader<'a> {
+        Reader { book: [0; LONGEST_BOOK], ..self.reader(levels) }
+    }
+}
+
+/// A reading by a rule, with its book and its level store.
+#[derive(Clone, Debug)]
+pub struct Reader<'a> {
+    file: &'a [u8],
+    book: [u64; LONGEST_BOOK],
+    levels: Vec<Level>,
+    reading: Reading,
+    ceiling: u32,
+}
+
+impl Reader<'_> {
+    /// From now on no more than so many looks are made, all in all.
+    pub fn set_ceiling(&mut self, ceiling: u32) {
+        self.ceiling = ceiling;
+    }
+
+    /// Takes events. Where one is refused, those before it are taken, and the reading stands before it.
+    pub fn feed(&mut self, events: &[u16]) -> Result<(), Refusal> {
+        let mut answer = [0; ANSWER];
+        calls::feed(
+            self.file,
+            &self.book,
+            self.ceiling,
+            self.reading,
+            &mut self.levels,
+            events,
+            &mut answer,
+        );
+        self.reading = Reading::in_answer(&answer);
+        Refusal::unless_fine(&answer)
+    }
+
+    /// The verdict, if no level is open. The reader may be fed on after it.
+    pub fn finish(&self) -> Result<End, Refusal> {
+        let mut answer = [0; ANSWER];
+        calls::finish(self.file, &self.book, self.reading, &self.levels, &mut answer);
+        Refusal::unless_fine(&answer)?;
+        Ok(End::in_answer(&answer))
+    }
+
+    /// The first letter of each level from the top to where the reading stands; none for a level that has no letter yet.
+    pub fn path(&self) -> Result<Vec<Option<u16>>, Refusal> {
+        let (mut letters, mut answer) = (vec![0; self.levels.len() + 1], [0; ANSWER]);
+        calls::path(self.file, &self.book, self.reading, &self.levels, &mut letters, &mut answer);
+        Refusal::unless_fine(&answer)?;
+        letters.truncate(answer[2] as usize);
+        Ok(letters.into_iter().map(|letter| Some(letter).filter(|&a| a != NO_LETTER)).collect())
+    }
+
+    /// Where the reading stands.
+    pub fn reading(&self) -> Reading {
+        self.reading
+    }
+}
