@@ -152,7 +152,12 @@ impl Comparison<'_> {
         self.same("open, feed, finish", WHOLE, &(call, book), expected, found)
     }
 
-    fn write_rule(&mut self, writing: &Writing, output: &[u8], held: &Answer) -> Result<(), String> {
+    fn write_rule(
+        &mut self,
+        writing: &Writing,
+        output: &[u8],
+        held: &Answer,
+    ) -> Result<(), String> {
         let mut bytes = output.to_vec();
         let written = reader::write_rule(
             writing.n,
@@ -167,10 +172,10 @@ impl Comparison<'_> {
         let expected =
             Left { output: bytes, ..Left::by(numbers(written, |count| vec![count as u64])) };
         let tables = Tables {
-            n: writing.n,
+            states: writing.n,
             initial: writing.initial,
             tree_start: writing.tree_start,
-            k: writing.k,
+            letters: writing.k,
             letter_moves: &writing.letter_moves,
             tree_moves: &writing.tree_moves,
             classes: &writing.classes,
@@ -257,8 +262,7 @@ impl Comparison<'_> {
         let (mut book_after, mut lent) = (book.to_vec(), Store::new(&call.store));
         let mut answer = *held;
         host::read_document(file, &mut book_after, &mut lent, events, &mut answer);
-        let found =
-            Left { answer, book: book_after, store: lent.levels(), ..Left::default() };
+        let found = Left { answer, book: book_after, store: lent.levels(), ..Left::default() };
         self.same("whole document", WHOLE, &(call, book, held), expected, found)
     }
 
@@ -329,15 +333,7 @@ fn feed_linked(
     held: &Answer,
 ) -> Left {
     let (mut lent, mut answer) = (Store::new(store), *held);
-    host::feed(
-        &call.rule_file,
-        &call.book,
-        call.ceiling,
-        reading,
-        &mut lent,
-        events,
-        &mut answer,
-    );
+    host::feed(&call.rule_file, &call.book, call.ceiling, reading, &mut lent, events, &mut answer);
     Left { answer, store: lent.levels(), ..Left::default() }
 }
 
