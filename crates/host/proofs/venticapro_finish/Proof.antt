@@ -25,7 +25,7 @@ use denote.Laws.{Is, all-typed, valss}
 use denote.Plain.{nothing-makes}
 use denote.Builtin.{u8, u64, unit}
 use denote.Ref.{MutRef, ptr-vals, at-last}
-use denote.Slice.{sliceVal, MutSlice, ShrSlice, slice-vals}
+use denote.Slice.{sliceVal, ShrSlice, slice-vals}
 use denote.Struct.Laws as LL
 use denote.Triple.Entry.{Args, Vals, onEntry}
 use denote.Triple.Spec.{Meets, tripleOf}
@@ -35,13 +35,13 @@ use Rattle.meaning.specs.declared.Level.{Level}
 use Rattle.meaning.specs.declared.Reading.{Reading}
 use Rattle.levels.proofs.Values.{FitsIn, storable}
 use Rattle.levels.proofs.Locals.{placed, freed}
-use Rattle.levels.proofs.Lines.{var, count, pointer, bundle, lets, lands-in, begins}
-use Rattle.levels.proofs.Listed.{Parameter, of-shared, of-unique, of-number, kinds, stays, rows, spells, tellss, lawfuls, all-go}
+use Rattle.levels.proofs.Lines.{var, lets, lands-in, begins}
+use Rattle.levels.proofs.Listed.{Parameter, of-shared, of-number, kinds, stays, rows, spells, tellss, lawfuls, all-go}
 use Rattle.levels.proofs.Parameters.{holds, leaves}
 use Rattle.levels.proofs.Meets.{proved}
 use Rattle.levels.proofs.Element.{record-type}
-use Rattle.levels.proofs.InPlace.{learns, calls-by}
-use Rattle.levels.proofs.Loans.{Kept, Shown, recounted, shown}
+use Rattle.levels.proofs.InPlace.{calls-by}
+use Rattle.levels.proofs.Loans.{Shown, shown}
 use Rattle.meaning.specs.Calls.{endSays, finishCall}
 use Rattle.meaning.specs.declared.End.{End}
 use Rattle.meaning.proofs.Reading as Rd
