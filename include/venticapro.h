@@ -11,6 +11,8 @@
  * Nothing is kept between calls: no global state, no allocation, nothing to initialise or to free. Calls may be made from
  * any thread, at the same time too, as long as no two of them are lent the same memory and one writes to it.
  *
+ * A call needs less than 1,024 bytes of stack; its time grows with the events that it is lent.
+ *
  * Nothing that is lent has to be cleared before: not the answer, not the book for opening, not the level store.
  *
  * What each refusal means is in docs/NUMBERS.md; venticapro_sentence gives its words. */
