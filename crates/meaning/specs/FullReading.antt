@@ -173,7 +173,7 @@ unfoldable pub goOn : {A : Type 0} → A → Answer A → (A → Went A) → Wen
 goOn a (given b) rest = rest b
 goOn a (refused number place) rest = record { last = a; ended = refused number place }
 
-unfoldable pub feedBy : {A : Type 0} → (A → ℕ → Answer A) → A → List ℕ → Went A
+unfoldable pub feedBy : {A E : Type 0} → (A → E → Answer A) → A → List E → Went A
 feedBy step a [] = record { last = a; ended = given tt }
 feedBy step a (e ∷ es) = goOn a (step a e) (λ b. feedBy step b es)
 

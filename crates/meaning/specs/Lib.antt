@@ -9,5 +9,6 @@ pub mod Skipping
 pub mod PassedOver
 pub mod Calls
 pub mod Demands
+pub mod Cards
 pub mod Cases
 pub mod CheckProgram

@@ -20,19 +20,19 @@ module _ {A : Type 0} where
   unfolding goOn
   goOn-refused a rest e = rw (e, goOn)
 
-module _ {A : Type 0} (step : A → ℕ → Answer A) where
+module _ {A E : Type 0} (step : A → E → Answer A) where
   -- no event changes nothing
   pub feed-none : (a : A) → feedBy step a [] ≡ record { last = a; ended = given tt }
   unfolding feedBy
   feed-none a = refl
 
   -- an event that is taken, and on
-  pub feed-taken : {a b : A} {e : ℕ} (es : List ℕ) → step a e ≡ given b → feedBy step a (e ∷ es) ≡ feedBy step b es
+  pub feed-taken : {a b : A} {e : E} (es : List E) → step a e ≡ given b → feedBy step a (e ∷ es) ≡ feedBy step b es
   unfolding feedBy
   feed-taken {a} es h = goOn-given a (λ b. feedBy step b es) h
 
   -- an event that is refused
-  pub feed-refused : {a : A} {e number place : ℕ} (es : List ℕ) → step a e ≡ refused number place
+  pub feed-refused : {a : A} {e : E} {number place : ℕ} (es : List E) → step a e ≡ refused number place
       → feedBy step a (e ∷ es) ≡ record { last = a; ended = refused number place }
   unfolding feedBy
   feed-refused {a} es h = goOn-refused a (λ b. feedBy step b es) h
@@ -40,14 +40,14 @@ module _ {A : Type 0} (step : A → ℕ → Answer A) where
   -- ---- events in two parts
 
   -- where all of the first part are taken, the second part is fed from where it led
-  append-on : (ys : List ℕ) (first both : A → Went A)
+  append-on : (ys : List E) (first both : A → Went A)
       → ((b : A) → first b .ended ≡ given tt → both b ≡ feedBy step (first b .last) ys)
       → (a : A) (x : Answer A) → goOn a x first .ended ≡ given tt → goOn a x both ≡ feedBy step (goOn a x first .last) ys
   unfolding goOn
   append-on ys first both next a (given b) h = next b h
   append-on ys first both next a (refused number place) h = let z : _≡_ {A = ℕ} 0 1 = cc in absurd (omega arith)
 
-  pub feed-append : (a : A) (xs ys : List ℕ) → feedBy step a xs .ended ≡ given tt
+  pub feed-append : (a : A) (xs ys : List E) → feedBy step a xs .ended ≡ given tt
       → feedBy step a (xs ++ ys) ≡ feedBy step (feedBy step a xs .last) ys
   unfolding feedBy
   feed-append a [] ys h = refl
@@ -62,7 +62,7 @@ module _ {A : Type 0} (step : A → ℕ → Answer A) where
   append-refused-on first both next a (given b) h = next b h
   append-refused-on first both next a (refused number place) h = refl
 
-  pub feed-append-refused : {number place : ℕ} (a : A) (xs ys : List ℕ) → feedBy step a xs .ended ≡ refused number place
+  pub feed-append-refused : {number place : ℕ} (a : A) (xs ys : List E) → feedBy step a xs .ended ≡ refused number place
       → feedBy step a (xs ++ ys) ≡ feedBy step a xs
   unfolding feedBy
   feed-append-refused a [] ys h = let z : _≡_ {A = ℕ} 0 1 = cc in absurd (omega arith)
@@ -70,7 +70,7 @@ module _ {A : Type 0} (step : A → ℕ → Answer A) where
       append-refused-on (λ b. feedBy step b xs) (λ b. feedBy step b (xs ++ ys)) (λ b. feed-append-refused b xs ys) a (step a e) h
 
   -- where all of both parts are taken, so are all of the first, and all of the second from there
-  split-on : (ys : List ℕ) (first both : A → Went A)
+  split-on : (ys : List E) (first both : A → Went A)
       → ((b : A) → both b .ended ≡ given tt → (first b .ended ≡ given tt) × (feedBy step (first b .last) ys .ended ≡ given tt))
       → (a : A) (x : Answer A) → goOn a x both .ended ≡ given tt
       → (goOn a x first .ended ≡ given tt) × (feedBy step (goOn a x first .last) ys .ended ≡ given tt)
@@ -78,7 +78,7 @@ module _ {A : Type 0} (step : A → ℕ → Answer A) where
   split-on ys first both next a (given b) h = next b h
   split-on ys first both next a (refused number place) h = let z : _≡_ {A = ℕ} 0 1 = cc in absurd (omega arith)
 
-  pub feed-split : (a : A) (xs ys : List ℕ) → feedBy step a (xs ++ ys) .ended ≡ given tt
+  pub feed-split : (a : A) (xs ys : List E) → feedBy step a (xs ++ ys) .ended ≡ given tt
       → (feedBy step a xs .ended ≡ given tt) × (feedBy step (feedBy step a xs .last) ys .ended ≡ given tt)
   unfolding feedBy
   feed-split a [] ys h = (refl, h)
@@ -92,13 +92,13 @@ module _ {A : Type 0} (step : A → ℕ → Answer A) where
   first-on rest a (given b) h = (b, refl, refl)
   first-on rest a (refused number place) h = let z : _≡_ {A = ℕ} 0 1 = cc in absurd (omega arith)
 
-  pub feed-first : (a : A) (e : ℕ) (es : List ℕ) → feedBy step a (e ∷ es) .ended ≡ given tt
+  pub feed-first : (a : A) (e : E) (es : List E) → feedBy step a (e ∷ es) .ended ≡ given tt
       → (b : A) × (step a e ≡ given b) × (feedBy step a (e ∷ es) ≡ feedBy step b es)
   unfolding feedBy
   feed-first a e es h = first-on (λ b. feedBy step b es) a (step a e) h
 
 -- ---- two steps that agree
 
-pub feed-cong : {A : Type 0} (step other : A → ℕ → Answer A) → ((a : A) (e : ℕ) → step a e ≡ other a e)
-    → (a : A) (es : List ℕ) → feedBy step a es ≡ feedBy other a es
+pub feed-cong : {A E : Type 0} (step other : A → E → Answer A) → ((a : A) (e : E) → step a e ≡ other a e)
+    → (a : A) (es : List E) → feedBy step a es ≡ feedBy other a es
 feed-cong step other same a es = ap (λ s. feedBy s a es) (fun-ext (λ b. fun-ext (same b)))

@@ -90,9 +90,9 @@ look-each table place place′ (to q) move′ same rest = rw (← same) (rest q 
 
 -- A relation that the second step keeps wherever the first takes an event is kept by feeding: where the first takes all, so
 -- does the second. It may speak of the events that are still to come.
-module _ {A B : Type 0} (step : A → ℕ → Answer A) (step′ : B → ℕ → Answer B) (P : List ℕ → A → B → Type 0)
-    (keeps : (e : ℕ) (es : List ℕ) (a : A) (b : B) → P (e ∷ es) a b → Follows (P es) (step a e) (step′ b e)) where
-  goOn-each : (es : List ℕ) (a : A) (b : B) (rest : A → Went A) (rest′ : B → Went B) {x : Answer A} {y : Answer B}
+module _ {A B E : Type 0} (step : A → E → Answer A) (step′ : B → E → Answer B) (P : List E → A → B → Type 0)
+    (keeps : (e : E) (es : List E) (a : A) (b : B) → P (e ∷ es) a b → Follows (P es) (step a e) (step′ b e)) where
+  goOn-each : (es : List E) (a : A) (b : B) (rest : A → Went A) (rest′ : B → Went B) {x : Answer A} {y : Answer B}
       → ((a : A) (b : B) → P es a b → rest a .ended ≡ given tt → (rest′ b .ended ≡ given tt) × P [] (rest a .last) (rest′ b .last))
       → Follows (P es) x y → goOn a x rest .ended ≡ given tt
       → (goOn b y rest′ .ended ≡ given tt) × P [] (goOn a x rest .last) (goOn b y rest′ .last)
@@ -100,7 +100,7 @@ module _ {A B : Type 0} (step : A → ℕ → Answer A) (step′ : B → ℕ →
   goOn-each es a b rest rest′ next notAsked all = let z : _≡_ {A = ℕ} 0 1 = cc in absurd (omega arith)
   goOn-each es a b rest rest′ next (bothGive {a = a′} {b = b′} p) all = next a′ b′ p all
 
-  pub feed-each : (es : List ℕ) (a : A) (b : B) → P es a b → feedBy step a es .ended ≡ given tt
+  pub feed-each : (es : List E) (a : A) (b : B) → P es a b → feedBy step a es .ended ≡ given tt
       → (feedBy step′ b es .ended ≡ given tt) × P [] (feedBy step a es .last) (feedBy step′ b es .last)
   unfolding feedBy
   feed-each [] a b p all = (refl, p)
