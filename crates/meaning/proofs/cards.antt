@@ -1,2 +1,3 @@
 -- Cards: what they say of blocks, full reading and skipping with them, of runs and of the calls.
 pub mod OfHedges
+pub mod WithCards

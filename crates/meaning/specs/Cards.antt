@@ -14,7 +14,7 @@ use Rattle.meaning.specs.FullReading.{Event, opens, closes, letter, even
 use Rattle.meaning.specs.Hedges.{wellNested, deepest}
 use Rattle.meaning.specs.SkipBook.{listed}
 use Rattle.meaning.specs.Skipping.{settled, passed, skipStep}
-use Rattle.meaning.specs.Calls.{Stored, topOf, storeStep, readingCheck, feedCall}
+use Rattle.meaning.specs.Calls.{Judged, endOfRun, Stored, topOf, storeStep, readingCheck, feedCall}
 
 -- ---- the card of a block
 
@@ -190,6 +190,11 @@ pub record SufficesWithCards (room ceiling : ℕ) (m : Run) (items : List Item) 
   pub levels : deepest (m .reading .depth) (eventsAlone items) ≤ room
   pub looks : m .reading .looks + length items ≤ ceiling
   pub taken : m .reading .taken + length items ≤ mostEvents
+
+-- a run that took all, and ends with a verdict and a state
+pub record EndsWith (R : Rule) (w : Went Run) (j : Judged) : Type 0 where
+  pub allTaken : w .ended ≡ given tt
+  pub verdict : endOfRun R (w .last) ≡ given j
 
 -- ---- a reading by the calls, feed and take in any order
 

@@ -155,6 +155,9 @@ module _ {R : Rule} (rule : IsRule R) where
   unfolding cardOf
   card-moves block q low = tabled-moves (λ q. readFrom R q [] block) q low (λ p e. read-below rule block q [] low e)
 
+  pub card-below : (block : List ℕ) (q : ℕ) {p : ℕ} → q < R .states → cardMove (cardOf R block) q ≡ to p → p < R .states
+  card-below block q low leads = read-below rule block q [] low (sym (card-moves block q low) ∙ leads)
+
   -- The card of two blocks joined is the first card followed by the second.
   pub joined-card : (xs ys : List ℕ) → wellNested (R .letters) xs ≡ true
       → cardOf R (xs ++ ys) ≡ joinedCards R (cardOf R xs) (cardOf R ys)

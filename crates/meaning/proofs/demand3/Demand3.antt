@@ -75,14 +75,14 @@ unfolding aboves
 aboves-append [] σ = refl
 aboves-append (l ∷ τ) σ = ap (λ us. l .above ∷ us) (aboves-append τ σ)
 
-inner-by-stack : (ls ls′ : List Level) → aboves ls ≡ aboves ls′ → innermost ls .above ≡ innermost ls′ .above
+pub inner-by-stack : (ls ls′ : List Level) → aboves ls ≡ aboves ls′ → innermost ls .above ≡ innermost ls′ .above
 unfolding aboves innermost
 inner-by-stack [] [] same = refl
 inner-by-stack [] (l ∷ ls) same = let z : _≡_ {A = ℕ} 0 1 = cc in absurd (omega arith)
 inner-by-stack (l ∷ ls) [] same = let z : _≡_ {A = ℕ} 0 1 = cc in absurd (omega arith)
 inner-by-stack (l ∷ ls) (l′ ∷ ls′) same = cc
 
-outer-by-stack : (ls ls′ : List Level) → aboves ls ≡ aboves ls′ → aboves (outer ls) ≡ aboves (outer ls′)
+pub outer-by-stack : (ls ls′ : List Level) → aboves ls ≡ aboves ls′ → aboves (outer ls) ≡ aboves (outer ls′)
 unfolding aboves outer
 outer-by-stack [] [] same = refl
 outer-by-stack [] (l ∷ ls) same = let z : _≡_ {A = ℕ} 0 1 = cc in absurd (omega arith)
@@ -520,7 +520,7 @@ same-state {book} {r′} [] [] rule own along none =
 same-state [] (l ∷ σ) rule own along none = absurd (omega arith)
 same-state (l ∷ τ) σ rule own along none = absurd (omega arith)
 
-ends-alike : {R : Rule} {book : List ℕ} {m s : Run} {j : Judged} → IsRule R → IsBook R book → Simulates R book m s
+pub ends-alike : {R : Rule} {book : List ℕ} {m s : Run} {j : Judged} → IsRule R → IsBook R book → Simulates R book m s
     → endOfRun R m ≡ given j → endOfRun R s ≡ given j
 unfolding endOf
 ends-alike rule own (simulates {r} {r′} {ls} {τ} {σ} stack along) judged =
