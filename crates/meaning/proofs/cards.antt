@@ -1,3 +1,4 @@
 -- Cards: what they say of blocks, full reading and skipping with them, of runs and of the calls.
 pub mod OfHedges
 pub mod WithCards
+pub mod Demand3Cards

@@ -136,12 +136,12 @@ here-reach : {R : Rule} {q x : ℕ} → Ahead R q x [] → Reach R q x
 here-reach (here reach) = reach
 
 module _ {R : Rule} (rule : IsRule R) {q : ℕ} where
-  ahead-letter : {x : ℕ} {τ : List Level} (a : ℕ) {y : ℕ} → Ahead R q x τ → a < R .letters → letterMove R x a ≡ to y
+  pub ahead-letter : {x : ℕ} {τ : List Level} (a : ℕ) {y : ℕ} → Ahead R q x τ → a < R .letters → letterMove R x a ≡ to y
       → Ahead R q y τ
   ahead-letter a (here reach) known leads = here (reach-letter a reach known leads)
   ahead-letter a (inside can rest) known leads = inside (letter-ends-tree a can known leads) rest
 
-  ahead-open : (l : Level) {τ : List Level} {y : ℕ} → Ahead R q (l .above) τ → treeStartMove R ≡ to y → Ahead R q y (l ∷ τ)
+  pub ahead-open : (l : Level) {τ : List Level} {y : ℕ} → Ahead R q (l .above) τ → treeStartMove R ≡ to y → Ahead R q y (l ∷ τ)
   ahead-open l rest leads = inside (start-ends-tree leads) rest
 
   back-out : {u : ℕ} {τ : List Level} (x : ℕ) {y : ℕ} → Ahead R q u τ → CanEndTree R x → treeMove R u x ≡ to y
@@ -149,7 +149,7 @@ module _ {R : Rule} (rule : IsRule R) {q : ℕ} where
   back-out x (here reach) can leads = here (reach-tree x reach can leads)
   back-out x (inside can′ rest) can leads = inside (tree-ends-tree x can′ can leads) rest
 
-  ahead-close : {x : ℕ} {l : Level} {τ : List Level} {y : ℕ} → Ahead R q x (l ∷ τ) → treeMove R (l .above) x ≡ to y
+  pub ahead-close : {x : ℕ} {l : Level} {τ : List Level} {y : ℕ} → Ahead R q x (l ∷ τ) → treeMove R (l .above) x ≡ to y
       → Ahead R q y τ
   ahead-close (inside {x} can rest) leads = back-out x rest can leads
 
@@ -239,7 +239,7 @@ no-look n e = rw (if-true {A = ℕ} 0 1 e) (omega arith)
 
 module _ {R : Rule} {book : List ℕ} {n : ℕ} (r r′ : Reading) where
   -- the two stand together, in one state
-  meet : (ls σ : List Level) → aboves ls ≡ aboves σ → Counts r [] r′ σ → r′ .state < R .states → Outside R book σ
+  pub meet : (ls σ : List Level) → aboves ls ≡ aboves σ → Counts r [] r′ σ → r′ .state < R .states → Outside R book σ
       → r .state ≡ r′ .state → r′ .looks ≡ n
       → Kept R book n (record { reading = r; levels = ls }) (record { reading = r′; levels = σ })
   meet ls σ stack counts low outside same looks =
@@ -254,7 +254,7 @@ module _ {R : Rule} {book : List ℕ} {n : ℕ} (r r′ : Reading) where
       record { related = simulates {τ = []} stack along; counted = looks }
 
   -- skipping stands on a settled level, and full reading is ahead
-  stand : (ls τ σ : List Level) → aboves ls ≡ aboves (τ ++ σ) → Counts r τ r′ σ → r′ .state < R .states → Outside R book σ
+  pub stand : (ls τ σ : List Level) → aboves ls ≡ aboves (τ ++ σ) → Counts r τ r′ σ → r′ .state < R .states → Outside R book σ
       → Ahead R (r′ .state) (r .state) τ → levelSettled book (r′ .state) σ ≡ true → r′ .looks ≡ n
       → Kept R book n (record { reading = r; levels = ls }) (record { reading = r′; levels = σ })
   stand ls τ σ stack counts low outside ahead settles looks =
