@@ -2,3 +2,4 @@
 pub mod OfHedges
 pub mod WithCards
 pub mod Demand3Cards
+pub mod CardCalls

@@ -14,7 +14,7 @@ use Rattle.meaning.specs.FullReading.{Event, opens, closes, letter, even
 use Rattle.meaning.specs.Hedges.{wellNested, deepest}
 use Rattle.meaning.specs.SkipBook.{listed}
 use Rattle.meaning.specs.Skipping.{settled, passed, skipStep}
-use Rattle.meaning.specs.Calls.{Judged, endOfRun, Stored, topOf, storeStep, readingCheck, feedCall}
+use Rattle.meaning.specs.Calls.{Judged, endOfRun, Stored, topOf, storeStep, readingCheck, feedCall, finishCall}
 
 -- ---- the card of a block
 
@@ -169,6 +169,13 @@ pub data OwnCards (R : Rule) : List Item → Type 0 where
   itsCard : {card block : List ℕ} {items : List Item} → wellNested (R .letters) block ≡ true → card ≡ cardOf R block
       → OwnCards R items → OwnCards R (cardFor card block ∷ items)
 
+-- every card has n bytes in range, whatever its block
+pub data CardsInRange (R : Rule) : List Item → Type 0 where
+  noMore : CardsInRange R []
+  anyEvent : {e : ℕ} {items : List Item} → CardsInRange R items → CardsInRange R (event e ∷ items)
+  inRange : {card block : List ℕ} {items : List Item} → cardCheck (R .states) card ≡ given tt → CardsInRange R items
+      → CardsInRange R (cardFor card block ∷ items)
+
 -- a run whose reading is another and whose levels stay
 unfoldable pub runWith : List Level → Reading → Answer Run
 runWith ls r = given (record { reading = r; levels = ls })
@@ -220,6 +227,13 @@ unfoldable pub partCall : List ℕ → List ℕ → ℕ → Stored → Part → 
 partCall file book ceiling s (feeds es) = feedCall file book ceiling (s .reading) (s .store) es
 partCall file book ceiling s (takes card block) = takeCall file book ceiling (s .reading) (s .store) card
 
+-- one item over the lent store: a card writes nothing
+unfoldable pub storeItem : Rule → List ℕ → ℕ → Stored → Item → Answer Stored
+storeItem R book ceiling s (event e) = storeStep R book ceiling s e
+storeItem R book ceiling s (cardFor card block) =
+    skipCard book ceiling (s .reading) (topOf (s .reading) (s .store)) card giving λ r.
+    given (record { reading = r; store = s .store })
+
 -- where a call led to, and on from there if it took all
 unfoldable pub whenTaken : {A : Type 0} → Went A → Answer Unit → (A → Went A) → Went A
 whenTaken w (given u) next = next (w .last)
@@ -231,3 +245,10 @@ partCalls file book ceiling s [] = record { last = s; ended = given tt }
 partCalls file book ceiling s (p ∷ ps) =
     let w : Went Stored = partCall file book ceiling s p in
     whenTaken w (w .ended) (λ s′. partCalls file book ceiling s′ ps)
+
+-- From a reading to a verdict: every call takes all that it is given, and finish then answers it.
+pub record PartsReadTo (file book : List ℕ) (first : Reading) (store : List Level) (ceiling : ℕ) (parts : List Part) (j : Judged)
+    : Type 0 where
+  pub takesAll : partCalls file book ceiling (record { reading = first; store = store }) parts .ended ≡ given tt
+  pub verdict : finishCall file book (partCalls file book ceiling (record { reading = first; store = store }) parts .last .reading)
+      (partCalls file book ceiling (record { reading = first; store = store }) parts .last .store) ≡ given j

@@ -32,7 +32,7 @@ place-same (suc d) taken store =
     let down : suc d - 1 ≡ d = omega arith in
     ap (λ (i : ℕ). if 0 <? suc d then getD store i blank .opened else taken) down
 
-end-same : (R : Rule) (r : Reading) (store : List Level) → endOf R r (topOf r store) ≡ endOf R r (innermost (levelsOf (r .depth) store))
+pub end-same : (R : Rule) (r : Reading) (store : List Level) → endOf R r (topOf r store) ≡ endOf R r (innermost (levelsOf (r .depth) store))
 unfolding endOf openPlace topOf
 end-same R r store = rw (place-same (r .depth) (r .taken) store)
 

@@ -33,7 +33,7 @@ move-below n x good leads =
     rw (there .1) at (ltb-true x n (or-true-first (x <? n) (x =? none) good (there .0)))
 
 -- a table of moves leads to states; past its end there is none
-entry-below : (n : ℕ) (table : List ℕ) (i : ℕ) {q : ℕ}
+pub entry-below : (n : ℕ) (table : List ℕ) (i : ℕ) {q : ℕ}
     → ((j : ℕ) → j < length table → isMove n (getD table j 0) ≡ true) → asMove (getD table i none) ≡ to q → q < n
 entry-below n [] i good leads = true-is-not-false refl (as-move none leads .0)
 entry-below n (x ∷ table) zero good leads = move-below n x (good 0 (omega arith)) leads

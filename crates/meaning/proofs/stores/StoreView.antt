@@ -54,7 +54,7 @@ levels-renewed (suc d) store l h =
     let back : suc d - 1 ≡ d = omega arith in
     rw back (cc (getD-set-same store d l blank (omega arith), levels-past d d store l (omega arith)))
 
-top-is : (d : ℕ) (store : List Level) → 0 < d → innermost (levelsOf d store) ≡ getD store (d - 1) blank
+pub top-is : (d : ℕ) (store : List Level) → 0 < d → innermost (levelsOf d store) ≡ getD store (d - 1) blank
 unfolding levelsOf innermost
 top-is zero store h = absurd (omega arith)
 top-is (suc d) store h = let back : suc d - 1 ≡ d = omega arith in rw back
@@ -169,7 +169,7 @@ module _ (R : Rule) (book : List ℕ) (ceiling : ℕ) where
   viewed-turn r store (given turn) same = ap given (same turn refl)
   viewed-turn r store (refused number place) same = refl
 
-  step-viewed : (size : ℕ) (s : Stored) (e : ℕ) → InStore size s
+  pub step-viewed : (size : ℕ) (s : Stored) (e : ℕ) → InStore size s
       → skipStep R book size ceiling (viewOf s) e ≡ (storeStep R book ceiling s e giving λ t. given (viewOf t))
   unfolding skipStep storeStep viewOf
   step-viewed size s e w =
