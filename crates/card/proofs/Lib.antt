@@ -1,0 +1,4 @@
+pub mod Moves
+pub mod Standing
+pub mod Events
+pub mod Blocks

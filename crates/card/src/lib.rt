@@ -1,0 +1,67 @@
+// Cards for stored parts: a card of a well-nested block says of each state in which state full reading of the block ends, or that
+// there is none. A card is made once and then taken in place of its block.
+mod following;
+mod moving;
+
+use following::follow_block;
+use meaning::Refusal;
+use rule::Checked;
+use rule::Rule;
+use rule::Written;
+use rule::check::Outcome;
+use rule::writer::copy_body;
+ghost use mathlib.Core.Path.{_≡_};
+ghost use mathlib.Core.List.{_++_};
+ghost use Prim.Native.Nat.{_≤_};
+ghost use lib.ListN.{length, take, drop};
+ghost use Rattle.meaning.specs.Answers.{refuse_at_when_otherwise_, _andThen_, given, _<?_};
+ghost use Rattle.meaning.specs.RuleFile.{ruleOf};
+ghost use Rattle.meaning.specs.Cards.{makeCard, cardLaid, blockCheck};
+ghost use Rattle.rule.specs.Says.{RuleOf, writtenSays};
+ghost use Rattle.card.specs.Making.{Unmoved, CardIs};
+
+// A card on which every state stands for itself.
+fn unmoved() -> [u8; 64]
+    ensures { λ r. ⌜ Unmoved r ⌝ }
+{
+    let mut card = [0; 64];
+    let mut state: u8 = 0;
+    while state < 64 {
+        card[state as usize] = state;
+        state += 1;
+    }
+    card
+}
+
+// The card of a block is made in its own room and written last.
+fn make_checked(file: &[u8], rule: Rule, block: &[u16], room: &mut [u8], output: &mut [u8]) -> Written
+    requires { ⌜ RuleOf (now file) rule ⌝ }
+    ensures { λ r. ⌜ CardIs (makeCard (now (file .entry)) (now (block .entry)) (length (now (room .entry))) (length (now (output .entry)))) (cardLaid (now (file .entry)) (now (block .entry)) (length (now (room .entry))) (now (output .entry))) r (now (output .exit)) ⌝ }
+{
+    let count = rule.states as usize;
+    if output.len() < count {
+        return Written::Refused(Refusal {
+            number: 14,
+            place: count,
+        });
+    }
+    let mut card = unmoved();
+    match follow_block(file, rule, &mut card, room, block) {
+        Outcome::Refused(refusal) => Written::Refused(refusal),
+        Outcome::Passes => {
+            copy_body(output, &card[0..count]);
+            Written::Bytes(count)
+        }
+    }
+}
+
+// Make the card of a block: the rule as the bytes of its file, the block's events, room for open levels of one byte each, and the
+// output for the card. The answer is the count of bytes, n; bytes past them stay. What the room then holds is not promised.
+pub fn make_card(file: &[u8], block: &[u16], room: &mut [u8], output: &mut [u8]) -> Written
+    ensures { λ r. ⌜ CardIs (makeCard (now (file .entry)) (now (block .entry)) (length (now (room .entry))) (length (now (output .entry)))) (cardLaid (now (file .entry)) (now (block .entry)) (length (now (room .entry))) (now (output .entry))) r (now (output .exit)) ⌝ }
+{
+    match Rule::of_file(file) {
+        Checked::Refused(refusal) => Written::Refused(refusal),
+        Checked::Fine(rule) => make_checked(file, rule, block, room, output),
+    }
+}
