@@ -15,7 +15,10 @@ use Rattle.meaning.specs.Cards.{_onward_, readFrom, cardMove, blockEvent, block
 use Rattle.meaning.proofs.laws.Answered.{refuse-stops, refuse-passes}
 use Rattle.meaning.proofs.laws.Truths.{or-true-left}
 use Rattle.card.specs.Pass.{Pass, restFrom, standing, CardIn, PassIn, afterEvent, Followed}
-use Rattle.card.specs.Making.{Unmoved}
+use Rattle.rule.specs.Checks.{outcomeSays}
+use Rattle.rule.specs.declared.check.Outcome.{Outcome}
+use Rattle.rule.specs.declared.check.Outcome.the-variants.{Passes}
+use Rattle.card.specs.Making.{Unmoved, BlockFollowed}
 use Rattle.card.proofs.Moves.{none-in, as-state, at-byte}
 
 pub record Along (R : Rule) (block : List ℕ) (size i : ℕ) (p : Pass) : Type 0 where
@@ -45,24 +48,24 @@ along-first {R} few block card room own =
           ap (λ x. x onward λ q. readFrom R q [] block) (sym stays);
     }
 
-module _ {R : Rule} {block : List ℕ} {size i : ℕ} {p p′ : Pass} (along : Along R block size i p) where
+module _ {R : Rule} {block : List ℕ} {size i : ℕ} {p : Pass} (along : Along R block size i p) where
   module _ (more : i < length block) where
     rest-is : drop i block ≡ getD block i 0 ∷ drop (suc i) block
     rest-is = drop-cons block i 0 more
 
     -- an event refused is the block's refusal, at its place
-    pub along-refused : {number : ℕ} → Followed R (getD block i 0) p p′ number → (number ≡ 0 → ⊥)
+    pub along-refused : {number : ℕ} {p′ : Pass} → Followed R (getD block i 0) p p′ number → 0 < number
         → refused number i ≡ blockCheck (R .letters) size 0 0 block
     unfolding blockCheck afterEvent
-    along-refused {number = zero} followed is = absurd (is refl)
+    along-refused {number = zero} followed is = absurd (omega arith)
     along-refused {number = suc n} followed is =
         sym (along .checked ∙ (ap (blockCheck (R .letters) size i (p .depth)) rest-is
         ∙ (rw (along .long) at (followed .checked i (λ d. blockCheck (R .letters) size (i + 1) d (drop (suc i) block))))))
 
     -- an event taken is the pass one event further
-    pub along-next : {number : ℕ} → Followed R (getD block i 0) p p′ number → number ≡ 0 → Along R block size (i + 1) p′
+    pub along-next : {number : ℕ} {p′ : Pass} → Followed R (getD block i 0) p p′ number → number ≡ 0 → Along R block size (i + 1) p′
     unfolding blockCheck afterEvent
-    along-next {number = zero} followed taken =
+    along-next {number = zero} {p′} followed taken =
         record {
           within = followed .goesOn taken;
           long = followed .roomLong ∙ along .long;
@@ -86,11 +89,10 @@ module _ {R : Rule} {block : List ℕ} {size i : ℕ} {p p′ : Pass} (along : A
       drop-all (x ∷ xs) zero h = absurd (omega arith)
       drop-all (x ∷ xs) (suc n) h = drop-all xs n (omega arith)
 
-  pub along-open : length block ≤ i → (p .depth ≡ 0 → ⊥) → refused 25 i ≡ blockCheck (R .letters) size 0 0 block
+  pub along-open : length block ≤ i → 0 < p .depth → refused 25 i ≡ blockCheck (R .letters) size 0 0 block
   unfolding blockCheck
   along-open all deep =
-      let inside : 0 < p .depth = omega arith in
-      sym (along .checked ∙ (ap (blockCheck (R .letters) size i (p .depth)) (none-left all) ∙ refuse-stops 25 i _ (lt-ltb 0 (p .depth) inside)))
+      sym (along .checked ∙ (ap (blockCheck (R .letters) size i (p .depth)) (none-left all) ∙ refuse-stops 25 i _ (lt-ltb 0 (p .depth) deep)))
 
   pub along-passes : length block ≤ i → p .depth ≡ 0 → given tt ≡ blockCheck (R .letters) size 0 0 block
   unfolding blockCheck
@@ -109,5 +111,27 @@ pub along-ends : {R : Rule} {block card room : List ℕ} {size i inner depth : �
     → (q : ℕ) → q < R .states → cardMove card q ≡ readFrom R q [] block
 unfolding standing restFrom readFrom
 along-ends {R} {block} {card} {room} {inner} {depth = zero} along all flat q low =
-    sym (along .leads q low ∙ (ap (standing R _ q) (none-left along all) ∙ onward-itself (cardMove card q)))
+    sym (along .leads q low ∙ (ap (standing R (record { card = card; inner = inner; depth = 0; room = room }) q) (none-left along all) ∙ onward-itself (cardMove card q)))
 along-ends {depth = suc d} along all flat q low = absurd (omega arith)
+
+-- ---- what the whole block answers
+
+pub block-refused : {R : Rule} {block card : List ℕ} {size number place : ℕ} {r : Outcome} → outcomeSays r ≡ refused number place
+    → refused number place ≡ blockCheck (R .letters) size 0 0 block → BlockFollowed R block size r card
+block-refused says is =
+    record {
+      answerIs = says ∙ is;
+      cardIn = λ e. let z : _≡_ {A = ℕ} 0 1 = cc in absurd (omega arith);
+      leads = λ e. let z : _≡_ {A = ℕ} 0 1 = cc in absurd (omega arith);
+    }
+
+pub block-passes : {R : Rule} {block card room : List ℕ} {size i inner depth : ℕ}
+    → Along R block size i (record { card = card; inner = inner; depth = depth; room = room }) → length block ≤ i → depth ≡ 0
+    → BlockFollowed R block size Passes card
+unfolding outcomeSays
+block-passes along all flat =
+    record {
+      answerIs = along-passes along all flat;
+      cardIn = λ e. along .within .cardIn;
+      leads = λ e. along-ends along all flat;
+    }

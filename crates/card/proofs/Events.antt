@@ -172,30 +172,30 @@ module _ {R : Rule} {card room : List ℕ} {inner : ℕ} where
   letter-flat zero card′ a flat known within moved = letter-outside card′ a known within moved
   letter-flat (suc d) card′ a flat known within moved = absurd (omega arith)
 
-  pub letter-deep : (depth inner′ a : ℕ) → (depth ≡ 0 → ⊥) → a < R .letters
+  pub letter-deep : (depth inner′ a : ℕ) → 0 < depth → a < R .letters
       → PassIn R (record { card = card; inner = inner; depth = depth; room = room })
       → MovesTo R (asMove inner onward λ q. letterMove R q a) inner′
       → Followed R (suc (suc a)) (record { card = card; inner = inner; depth = depth; room = room })
       (record { card = card; inner = inner′; depth = depth; room = room }) 0
-  letter-deep zero inner′ a deep known within lands = absurd (deep refl)
+  letter-deep zero inner′ a deep known within lands = absurd (omega arith)
   letter-deep (suc d) inner′ a deep known within lands = letter-within inner′ a d known within lands
 
-  pub close-flat : (depth : ℕ) (card′ : List ℕ) → (depth ≡ 0 → ⊥) → depth - 1 ≡ 0
+  pub close-flat : (depth : ℕ) (card′ : List ℕ) → depth ≡ 1
       → PassIn R (record { card = card; inner = inner; depth = depth; room = room })
       → CardMoved R (λ u. asMove inner onward λ p. treeMove R u p) card card′
       → Followed R 1 (record { card = card; inner = inner; depth = depth; room = room })
       (record { card = card′; inner = inner; depth = 0; room = room }) 0
-  close-flat zero card′ deep last within moved = absurd (deep refl)
-  close-flat (suc zero) card′ deep last within moved = close-outside card′ within moved
-  close-flat (suc (suc d)) card′ deep last within moved = absurd (omega arith)
+  close-flat zero card′ last within moved = absurd (omega arith)
+  close-flat (suc zero) card′ last within moved = close-outside card′ within moved
+  close-flat (suc (suc d)) card′ last within moved = absurd (omega arith)
 
-  pub close-deep : (depth inner′ : ℕ) → (depth ≡ 0 → ⊥) → (depth - 1 ≡ 0 → ⊥)
+  pub close-deep : (depth inner′ : ℕ) → 1 < depth
       → PassIn R (record { card = card; inner = inner; depth = depth; room = room })
       → MovesTo R (asMove (getD room (depth - 1) 0) onward λ u. asMove inner onward λ p. treeMove R u p) inner′
       → Followed R 1 (record { card = card; inner = inner; depth = depth; room = room })
       (record { card = card; inner = inner′; depth = depth - 1; room = room }) 0
-  close-deep zero inner′ deep more within lands = absurd (deep refl)
-  close-deep (suc zero) inner′ deep more within lands = absurd (more (omega arith))
-  close-deep (suc (suc d)) inner′ deep more within lands =
+  close-deep zero inner′ deep within lands = absurd (omega arith)
+  close-deep (suc zero) inner′ deep within lands = absurd (omega arith)
+  close-deep (suc (suc d)) inner′ deep within lands =
       let down : suc (suc d) - 1 ≡ suc d = omega arith in
       rw down (close-within inner′ d within (rw down at lands))

@@ -2,3 +2,4 @@ pub mod Moves
 pub mod Standing
 pub mod Events
 pub mod Blocks
+pub mod Made
