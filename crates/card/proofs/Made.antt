@@ -3,13 +3,13 @@
 use mathlib.Core.Path.{_≡_, refl, sym, ap, _∙_}
 use mathlib.Core.Bool.{Bool, true, false}
 use mathlib.Core.List.{List, [], _∷_, _++_}
-use Prim.Native.Nat.{ℕ, zero, suc, _+_, _≤_, _<_}
+use Prim.Native.Nat.{ℕ, _+_, _-_, _≤_, _<_}
 use native.Mathlib.Omega.{arith}
 use lib.ListN.{length, getD, take, drop}
 use lib.Seq.{ext-getD, getD-take, length-take-le}
 use borrow.Author.Tests.{lt-ltb, le-ltb, eqb-true}
 use Rattle.meaning.specs.Answers.{Answer, given, refused, _giving_, _=?_, if_then_else_}
-use Rattle.meaning.specs.RuleFile.{Rule, IsRule, Move, noMove, to, none, asMove, ruleOf}
+use Rattle.meaning.specs.RuleFile.{Rule, IsRule, Move, noMove, to, none, asMove, ruleOf, checkRule}
 use Rattle.meaning.specs.Cards.{readFrom, byteOf, tabled, cardOf, cardMove, makeCard, cardAfter, blockCheck}
 use Rattle.meaning.proofs.laws.Answered.{refuse-stops, refuse-passes, giving-passes, giving-stops, andThen-passes, andThen-stops}
 use Rattle.meaning.proofs.laws.Truths.{by-cases}
@@ -20,7 +20,7 @@ use Rattle.rule.specs.Laid.{laid}
 use Rattle.rule.specs.declared.Rule as numbers
 use Rattle.rule.specs.declared.Written.{Written}
 use Rattle.rule.specs.declared.check.Outcome.{Outcome}
-use Rattle.book.proofs.Walked.{states-are}
+use Rattle.book.proofs.Walked.{states-are, few-states}
 use Rattle.card.specs.Pass.{CardIn}
 use Rattle.card.specs.Making.{BlockFollowed, CardIs}
 use Rattle.card.proofs.Moves.{at-byte}
@@ -40,7 +40,7 @@ pub bytes-are-card : (R : Rule) (block card : List ℕ) → R .states ≤ 64 →
 unfolding cardOf tabled
 bytes-are-card R block card few long leads =
     let size : length (take (R .states) card) ≡ R .states = length-take-le (R .states) card (omega arith) in
-    ext-getD (take (R .states) card) (cardOf R block) 0 (size ∙ sym (listed-length (R .states) _)) (λ q h.
+    ext-getD 0 (take (R .states) card) (cardOf R block) (size ∙ sym (listed-length (R .states) _)) (λ q h.
     let low : q < R .states = omega arith in
     getD-take (R .states) card q 0 low
     ∙ (sym (byte-as (getD card q 0))
@@ -50,6 +50,10 @@ bytes-are-card R block card few long leads =
 module _ (file block output : List ℕ) (room : ℕ) where
   abbrev answer : Answer ℕ
   answer = makeCard file block room (length output)
+
+  pub rule-refused : {number place : ℕ} → checkRule file ≡ refused number place → answer ≡ refused number place
+  unfolding makeCard
+  rule-refused bad = giving-stops _ bad
 
   -- a refusal leaves the output
   pub card-refused : {number place : ℕ} {r : Written} → answer ≡ refused number place → writtenSays r ≡ refused number place
@@ -64,12 +68,45 @@ module _ (file block output : List ℕ) (room : ℕ) where
   card-laid is says there = record { answerIs = says ∙ sym is; outputIs = rw (is, cardAfter) there }
 
   module _ {rule : numbers.Rule} (of : RuleOf file rule) where
+    same : ruleOf file .states ≡ rule .states
+    same = states-are of
+
     pub too-short : length output < rule .states → answer ≡ refused 14 (rule .states)
     unfolding makeCard
     too-short short =
-        giving-passes _ (of .accepted)
-        ∙ (refuse-stops 14 _ _ (lt-ltb _ _ (omega (arith, states-are of))) ∙ ap (refused 14) (states-are of))
+        let less : length output < ruleOf file .states = omega (arith, same) in
+        giving-passes _ (of .accepted) ∙ (refuse-stops 14 _ _ (lt-ltb _ _ less) ∙ ap (refused 14) same)
 
-    module _ (fits : rule .states ≤ length output) where
-      long-enough : answer ≡ _
-      long-enough = giving-passes _ (of .accepted) ∙ refuse-passes 14 _ _ (le-ltb _ _ (omega (arith, states-are of)))
+    pub block-bad : {number place : ℕ} → rule .states ≤ length output
+        → blockCheck (ruleOf file .letters) room 0 0 block ≡ refused number place → answer ≡ refused number place
+    unfolding makeCard
+    block-bad fits bad =
+        let enough : ruleOf file .states ≤ length output = omega (arith, same) in
+        giving-passes _ (of .accepted) ∙ (refuse-passes 14 _ _ (le-ltb _ _ enough) ∙ andThen-stops _ bad)
+
+    pub block-good : rule .states ≤ length output → blockCheck (ruleOf file .letters) room 0 0 block ≡ given tt
+        → answer ≡ given (rule .states)
+    unfolding makeCard
+    block-good fits good =
+        let enough : ruleOf file .states ≤ length output = omega (arith, same) in
+        giving-passes _ (of .accepted)
+        ∙ (refuse-passes 14 _ _ (le-ltb _ _ enough) ∙ (andThen-passes _ good ∙ ap given same))
+
+    -- the card as it was laid
+    pub laid-is : (card : List ℕ) → CardIn (ruleOf file) card
+        → ((q : ℕ) → q < ruleOf file .states → cardMove card q ≡ readFrom (ruleOf file) q [] block)
+        → take (rule .states) card ++ drop (rule .states) output ≡ cardOf (ruleOf file) block ++ drop (rule .states) output
+    laid-is card within leads =
+        let few : ruleOf file .states ≤ 64 = omega (arith, few-states of, same) in
+        let bytes = bytes-are-card (ruleOf file) block card few (within .long) leads in
+        ap (λ l. l ++ drop (rule .states) output) (ap (λ n. take n card) (sym same) ∙ bytes)
+
+-- a part from the front on, copied to the front
+pub laid-part : (card output : List ℕ) (count : ℕ) → count ≤ length card
+    → laid 0 (take (count - 0) (drop 0 card)) output ≡ take count card ++ drop count output
+unfolding laid
+laid-part card output count fits =
+    let whole : count - 0 ≡ count = omega arith in
+    let size : length (take count card) ≡ count = length-take-le count card fits in
+    let past : 0 + length (take count card) ≡ count = omega arith in
+    rw (whole, past)

@@ -94,7 +94,14 @@ fn closed(file: &[u8], rule: Rule, card: &mut [u8; 64], room: &[u8], at: Followi
 }
 
 // One event of the block.
-fn follow_event(file: &[u8], rule: Rule, card: &mut [u8; 64], room: &mut [u8], at: Following, event: u16) -> Following
+fn follow_event(
+    file: &[u8],
+    rule: Rule,
+    card: &mut [u8; 64],
+    room: &mut [u8],
+    at: Following,
+    event: u16,
+) -> Following
     requires { ⌜ RuleOf (now file) rule ⌝ ∗ ⌜ PassIn (ruleOf (now file)) (record { card = now card; inner = at .inner; depth = at .depth; room = now room }) ⌝ }
     ensures { λ r. ⌜ Followed (ruleOf (now (file .entry))) event (record { card = now (card .entry); inner = at .inner; depth = at .depth; room = now (room .entry) }) (record { card = now (card .exit); inner = r .inner; depth = r .depth; room = now (room .exit) }) (r .number) ⌝ }
 {
@@ -108,7 +115,13 @@ fn follow_event(file: &[u8], rule: Rule, card: &mut [u8; 64], room: &mut [u8], a
 }
 
 // The whole block, event by event. A tree that is left open is refused at the block's end.
-pub fn follow_block(file: &[u8], rule: Rule, card: &mut [u8; 64], room: &mut [u8], block: &[u16]) -> Outcome
+pub fn follow_block(
+    file: &[u8],
+    rule: Rule,
+    card: &mut [u8; 64],
+    room: &mut [u8],
+    block: &[u16],
+) -> Outcome
     requires { ⌜ RuleOf (now file) rule ⌝ ∗ ⌜ Unmoved (now card) ⌝ }
     ensures { λ r. ⌜ BlockFollowed (ruleOf (now (file .entry))) (now (block .entry)) (length (now (room .entry))) r (now (card .exit)) ⌝ }
 {

@@ -14,10 +14,8 @@ ghost use mathlib.Core.Path.{_≡_};
 ghost use mathlib.Core.List.{_++_};
 ghost use Prim.Native.Nat.{_≤_};
 ghost use lib.ListN.{length, take, drop};
-ghost use Rattle.meaning.specs.Answers.{refuse_at_when_otherwise_, _andThen_, given, _<?_};
-ghost use Rattle.meaning.specs.RuleFile.{ruleOf};
-ghost use Rattle.meaning.specs.Cards.{makeCard, cardLaid, blockCheck};
-ghost use Rattle.rule.specs.Says.{RuleOf, writtenSays};
+ghost use Rattle.meaning.specs.Cards.{makeCard, cardLaid};
+ghost use Rattle.rule.specs.Says.{RuleOf};
 ghost use Rattle.card.specs.Making.{Unmoved, CardIs};
 
 // A card on which every state stands for itself.
@@ -33,8 +31,22 @@ fn unmoved() -> [u8; 64]
     card
 }
 
+// The first so many bytes of a card, laid at the front of the output. The bytes past them stay.
+fn lay_card(output: &mut [u8], card: &[u8], count: usize)
+    requires { ⌜ (count ≤ length (now card)) × (count ≤ length (now output)) ⌝ }
+    ensures { λ r. ⌜ now (output .exit) ≡ take count (now (card .entry)) ++ drop count (now (output .entry)) ⌝ }
+{
+    copy_body(output, &card[0..count]);
+}
+
 // The card of a block is made in its own room and written last.
-fn make_checked(file: &[u8], rule: Rule, block: &[u16], room: &mut [u8], output: &mut [u8]) -> Written
+fn make_checked(
+    file: &[u8],
+    rule: Rule,
+    block: &[u16],
+    room: &mut [u8],
+    output: &mut [u8],
+) -> Written
     requires { ⌜ RuleOf (now file) rule ⌝ }
     ensures { λ r. ⌜ CardIs (makeCard (now (file .entry)) (now (block .entry)) (length (now (room .entry))) (length (now (output .entry)))) (cardLaid (now (file .entry)) (now (block .entry)) (length (now (room .entry))) (now (output .entry))) r (now (output .exit)) ⌝ }
 {
@@ -49,7 +61,7 @@ fn make_checked(file: &[u8], rule: Rule, block: &[u16], room: &mut [u8], output:
     match follow_block(file, rule, &mut card, room, block) {
         Outcome::Refused(refusal) => Written::Refused(refusal),
         Outcome::Passes => {
-            copy_body(output, &card[0..count]);
+            lay_card(output, &card, count);
             Written::Bytes(count)
         }
     }

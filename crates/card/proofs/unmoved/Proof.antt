@@ -35,13 +35,16 @@ loop-less c = omega arith
 loop-again : tie.Need-loop-again Inv-loop μ-loop
 loop-again c =
     let loop = c .before .loop in
-    let room : loop .state < length (loop .card) = omega (arith, loop .inv .1) in
-    (omega arith, length-set (loop .card) (loop .state) (loop .state) ∙ loop .inv .1, λ q h.
-    by-cases (q =? loop .state)
-    (λ e. let same : q ≡ loop .state = eqb-true q (loop .state) e in
-    rw (same, getD-set-same (loop .card) (loop .state) (loop .state) 0 room))
-    (λ e. getD-set-other (loop .card) (loop .state) q (loop .state) 0 (eqb-false q (loop .state) e)
-    ∙ loop .inv .2 q (let other = eqb-false q (loop .state) e in omega arith)))
+    let room : loop .state < length (loop .card) = omega (arith, loop .inv .1) in (
+      omega arith,
+      length-set (loop .card) (loop .state) (loop .state) ∙ loop .inv .1,
+      λ q h.
+          by-cases (q =? loop .state)
+          (λ e. let same : q ≡ loop .state = eqb-true q (loop .state) e in
+          rw (same, getD-set-same (loop .card) (loop .state) (loop .state) 0 room))
+          (λ e. getD-set-other (loop .card) (loop .state) q (loop .state) 0 (eqb-false q (loop .state) e)
+          ∙ loop .inv .2 q (let other = eqb-false q (loop .state) e in omega arith)),
+    )
 
 returns : tie.Need-returns Inv-loop μ-loop
 returns c =
