@@ -14,6 +14,7 @@ use Rattle.meaning.specs.RuleFile.{Rule, Move, noMove, to, none, asMove, isMove
 use Rattle.meaning.specs.Cards.{_onward_, readFrom, cardMove, blockEvent, blockCheck}
 use Rattle.meaning.proofs.laws.Answered.{refuse-stops, refuse-passes}
 use Rattle.meaning.proofs.laws.Truths.{or-true-left}
+use Rattle.meaning.proofs.cards.OfHedges.{onward-itself}
 use Rattle.card.specs.Pass.{Pass, restFrom, standing, CardIn, PassIn, afterEvent, Followed}
 use Rattle.rule.specs.Checks.{outcomeSays}
 use Rattle.rule.specs.declared.check.Outcome.{Outcome}
@@ -99,11 +100,6 @@ module _ {R : Rule} {block : List ℕ} {size i : ℕ} {p : Pass} (along : Along 
   along-passes all flat =
       sym (along .checked ∙ (ap (blockCheck (R .letters) size i (p .depth)) (none-left all)
       ∙ refuse-passes 25 i _ (le-ltb 0 (p .depth) (omega arith))))
-
-onward-itself : (x : Move) → (x onward to) ≡ x
-unfolding _onward_
-onward-itself noMove = refl
-onward-itself (to q) = refl
 
 -- and with no tree open the card has where the block leads
 pub along-ends : {R : Rule} {block card room : List ℕ} {size i inner depth : ℕ}

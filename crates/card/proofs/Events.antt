@@ -180,6 +180,12 @@ module _ {R : Rule} {card room : List ℕ} {inner : ℕ} where
   letter-deep zero inner′ a deep known within lands = absurd (omega arith)
   letter-deep (suc d) inner′ a deep known within lands = letter-within inner′ a d known within lands
 
+  pub open-as : (depth start : ℕ) → IsRule R → start ≡ R .treeStart → depth < length room
+      → PassIn R (record { card = card; inner = inner; depth = depth; room = room })
+      → Followed R 0 (record { card = card; inner = inner; depth = depth; room = room })
+      (record { card = card; inner = start; depth = depth + 1; room = set room depth inner }) 0
+  open-as depth start rule is fits within = rw is (open-within depth rule fits within)
+
   pub close-flat : (depth : ℕ) (card′ : List ℕ) → depth ≡ 1
       → PassIn R (record { card = card; inner = inner; depth = depth; room = room })
       → CardMoved R (λ u. asMove inner onward λ p. treeMove R u p) card card′

@@ -3,3 +3,4 @@ pub mod Standing
 pub mod Events
 pub mod Blocks
 pub mod Made
+pub mod Taken

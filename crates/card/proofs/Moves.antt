@@ -15,6 +15,7 @@ use Rattle.meaning.proofs.laws.Answered.{if-true, if-false}
 use Rattle.meaning.proofs.laws.Truths.{or-true-first, or-true-left, or-true-right, by-cases}
 use Rattle.meaning.proofs.rulefile.Accepted.{accepted-is-rule, states-range}
 use Rattle.meaning.proofs.skipbook.Reaching.{letter-below, tree-below}
+use Rattle.meaning.proofs.cards.OfHedges.{byte-move, byte-in}
 use Rattle.rule.specs.Says.{RuleOf}
 use Rattle.rule.specs.Tables.{letterByte, treeByte, moveSays, moveIn}
 use Rattle.rule.specs.declared.Rule as numbers
@@ -39,16 +40,6 @@ in-state n b within other = ltb-true b n (or-true-first (b <? n) (b =? none) wit
 pub none-in : (n : ℕ) → isMove n none ≡ true
 unfolding isMove isState
 none-in n = or-true-right (none <? n) refl
-
-byte-move : (x : Move) → ((q : ℕ) → x ≡ to q → q < 64) → asMove (byteOf x) ≡ x
-unfolding asMove byteOf if_then_else_
-byte-move noMove below = refl
-byte-move (to q) below = if-false noMove (to q) (ne-eqb q none (λ e. omega (arith, below q refl)))
-
-byte-in : (n : ℕ) (x : Move) → ((q : ℕ) → x ≡ to q → q < n) → isMove n (byteOf x) ≡ true
-unfolding isMove isState byteOf
-byte-in n noMove below = or-true-right (none <? n) refl
-byte-in n (to q) below = or-true-left _ (lt-ltb q n (below q refl))
 
 -- the byte of a move to a state of the rule
 byte-lands : {R : Rule} → IsRule R → (x : Move) → ((q : ℕ) → x ≡ to q → q < R .states) → MovesTo R x (byteOf x)

@@ -2,6 +2,7 @@
 // there is none. A card is made once and then taken in place of its block.
 mod following;
 mod moving;
+mod taking;
 
 use following::follow_block;
 use meaning::Refusal;

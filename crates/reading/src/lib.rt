@@ -1,6 +1,6 @@
 // The calls of a reading over the lent level store: open, feed, finish and the whole document. What one event leads to is found
 // by value, in `turning`; here it is stored, and the calls check what they are handed.
-mod checking;
+pub mod checking;
 mod document;
 mod ending;
 mod feeding;

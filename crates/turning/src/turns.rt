@@ -43,7 +43,7 @@ fn no_move_number(table: Table) -> u8
 }
 
 // The reading after an event that was a look.
-fn looked(reading: Reading, state: u8, depth: u32) -> Reading
+pub fn looked(reading: Reading, state: u8, depth: u32) -> Reading
     requires { ⌜ OneMore reading ⌝ }
     ensures { λ r. ⌜ r ≡ full.looked reading state depth ⌝ }
 {
@@ -60,7 +60,7 @@ fn looked(reading: Reading, state: u8, depth: u32) -> Reading
 }
 
 // The reading after an event that was no look.
-fn passed(reading: Reading, state: u8, depth: u32, skip: u32) -> Reading
+pub fn passed(reading: Reading, state: u8, depth: u32, skip: u32) -> Reading
     requires { ⌜ OneMore reading ⌝ }
     ensures { λ r. ⌜ r ≡ skipping.passed reading state depth skip ⌝ }
 {

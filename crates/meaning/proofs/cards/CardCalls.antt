@@ -36,7 +36,7 @@ use Rattle.meaning.proofs.stores.ReadingCheck.{Checked, check-says, che
 use Rattle.meaning.proofs.stores.Opens.{fresh-checked, open-says, opened-long, open-writes}
 use Rattle.meaning.proofs.stores.ZeroBook.{none-settled, zero-step}
 use Rattle.meaning.proofs.demand3.Demand3Calls.{end-same, full-by-calls, calls-by-full}
-use Rattle.meaning.proofs.cards.OfHedges.{read-below, card-length}
+use Rattle.meaning.proofs.cards.OfHedges.{byte-in, read-below, card-length}
 use Rattle.meaning.proofs.cards.WithCards.{cards-end-as-blocks}
 use Rattle.meaning.proofs.cards.Demand3Cards.{demand-3-cards}
 
@@ -48,11 +48,6 @@ unfolding cardCheck cardMove
 fitting-below n card fits q leads =
     let whole = refuse-given 4 0 (not (length card =? n)) _ fits in
     entry-below n card q (table-in (isMove n) 0 card (whole .1)) leads
-
-byte-in : (n : ℕ) (x : Move) → ((q : ℕ) → x ≡ to q → q < n) → isMove n (byteOf x) ≡ true
-unfolding isMove isState byteOf
-byte-in n noMove below = or-true-right (none <? n) refl
-byte-in n (to q) below = or-true-left _ (lt-ltb q n (below q refl))
 
 -- a block's own card passes
 pub own-fits : {R : Rule} → IsRule R → (block : List ℕ) → cardCheck (R .states) (cardOf R block) ≡ given tt

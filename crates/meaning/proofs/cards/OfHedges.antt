@@ -11,13 +11,14 @@ use mathlib.Core.List.{List, [], _∷_, _++_, append-assoc, append-nil}
 use Prim.Native.Nat.{ℕ, zero, suc, _<_}
 use native.Mathlib.Omega.{arith}
 use lib.ListN.{length}
-use borrow.Author.Tests.{ne-eqb}
-use Rattle.meaning.specs.Answers.{if_then_else_}
-use Rattle.meaning.specs.RuleFile.{Rule, IsRule, Move, noMove, to, none, asMove, letterMove, treeMove, treeStartMove}
+use borrow.Author.Tests.{ne-eqb, lt-ltb}
+use Rattle.meaning.specs.Answers.{_<?_, if_then_else_}
+use Rattle.meaning.specs.RuleFile.{Rule, IsRule, Move, noMove, to, none, asMove, isState, isMove, letterMove, treeMove, treeStartMove}
 use Rattle.meaning.specs.FullReading.{eventOf, Table}
 use Rattle.meaning.specs.Hedges.{Hedge, ε, _·_, ⟨_⟩·_, eventsOf, known, Goes, Led, toState, missingAt, later, byMove, fromThere, evaluate, wellNested}
 use Rattle.meaning.specs.Cards.{_onward_, readOn, readFrom, byteOf, tabled, cardOf, cardMove, joinedCards, treeCard}
 use Rattle.meaning.proofs.laws.Answered.{if-false}
+use Rattle.meaning.proofs.laws.Truths.{or-true-left, or-true-right}
 use Rattle.meaning.proofs.rulefile.Accepted.{states-range}
 use Rattle.meaning.proofs.laws.Bools.{listed-at, listed-same, listed-length}
 use Rattle.meaning.proofs.skipbook.Reaching.{letter-below, tree-below, start-below}
@@ -31,7 +32,7 @@ unfolding _onward_
 onward-same noMove same = refl
 onward-same (to q) same = same q refl
 
-onward-itself : (x : Move) → (x onward to) ≡ x
+pub onward-itself : (x : Move) → (x onward to) ≡ x
 unfolding _onward_
 onward-itself noMove = refl
 onward-itself (to q) = refl
@@ -137,10 +138,16 @@ read-below {R} rule (suc (suc a) ∷ es) q σ low e =
     read-below rule es (m .0) σ (letter-below rule q a (m .1)) (m .2)
 
 -- a move to a state below 255 is the move that its byte stands for
-byte-move : (x : Move) → ((q : ℕ) → x ≡ to q → q < none) → asMove (byteOf x) ≡ x
+pub byte-move : (x : Move) → ((q : ℕ) → x ≡ to q → q < none) → asMove (byteOf x) ≡ x
 unfolding asMove byteOf if_then_else_
 byte-move noMove below = refl
 byte-move (to q) below = if-false noMove (to q) (ne-eqb q none (λ e. omega (arith, below q refl)))
+
+-- and the byte of a move to a state of the rule is in range
+pub byte-in : (n : ℕ) (x : Move) → ((q : ℕ) → x ≡ to q → q < n) → isMove n (byteOf x) ≡ true
+unfolding isMove isState byteOf
+byte-in n noMove below = or-true-right (none <? n) refl
+byte-in n (to q) below = or-true-left _ (lt-ltb q n (below q refl))
 
 module _ {R : Rule} (rule : IsRule R) where
   -- moves to states of the rule, laid into a table and read from it

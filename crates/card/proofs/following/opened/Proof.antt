@@ -4,7 +4,7 @@ use mathlib.Core.Path.{sym, ap}
 use Rattle.meaning.proofs.rulefile.Accepted.{accepted-is-rule}
 use Rattle.rule.specs.Says.{numbersOf}
 use Rattle.rule.specs.declared.Rule.{Rule}
-use Rattle.card.proofs.Events.{open-refused, open-within}
+use Rattle.card.proofs.Events.{open-refused, open-as}
 use borrow.Author.Needs.{needs}
 use Rattle.card.proofs.following.opened.Statement.{statement}
 use Rattle.card.proofs.following.opened.Tie as tie
@@ -26,9 +26,9 @@ same-length c = search needs
 
 returns-2 : tie.Need-returns-2
 unfolding numbersOf
-returns-2 c = λ file card of within.
-    rw (sym (ap (λ (r : Rule). r .«tree_start») (of .numbers)))
-    (open-within _ (accepted-is-rule file (of .accepted)) (c .if1 .left) within)
+returns-2 c =
+    λ file card of within.
+    open-as _ _ (accepted-is-rule file (of .accepted)) (sym (ap (λ (r : Rule). r .«tree_start») (of .numbers))) (c .if1 .left) within
 
 pub opened-spec : {M : Type 1} → statement M
 opened-spec =
