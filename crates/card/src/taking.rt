@@ -72,12 +72,7 @@ pub fn skip_card(book: &[u64], ceiling: u32, reading: Reading, top: Level, card:
     }
     let held = is_held(book, reading, top);
     if is_settled(book, reading, held) {
-        return Taking::Taken(passed(
-            reading,
-            reading.state,
-            reading.depth,
-            reading.skip,
-        ));
+        return Taking::Taken(passed(reading, reading.state, reading.depth, reading.skip));
     }
     card_turn(ceiling, reading, card)
 }

@@ -1,26 +1,28 @@
+-- `card::taking::card_check` meets its contract: the length, and then the bytes as those of a table.
+-- Assumes nothing.
+use mathlib.Core.Path.{sym, ap, _∙_}
+use mathlib.Core.Bool.{not}
+use borrow.Author.Tests.{ne-eqb, eq-eqb}
+use Rattle.meaning.specs.Cards.{cardCheck}
+use Rattle.meaning.proofs.laws.Answered.{refuse-stops, refuse-passes, true-not-false}
+use Rattle.rule.specs.Checks.{inRange}
 use borrow.Author.Needs.{needs}
 use Rattle.card.proofs.taking.card_check.Statement.{statement}
 use Rattle.card.proofs.taking.card_check.Tie as tie
-use Rattle.card.proofs.taking.card_check.Reads as reads
-use Rattle.card.proofs.taking.card_check.Lts as lts
-use Rattle.rule.proofs.check.refuse.Reads as refuse-reads
-use Rattle.rule.proofs.check.table_check.Reads as table-check-reads
 
--- src/taking.rt:44:9
 refuse-requires : tie.Need-refuse-requires
 refuse-requires c κs = search needs
 
--- src/taking.rt:44:9
 returns : tie.Need-returns
-returns c = ?
+unfolding cardCheck inRange
+returns c = c .refuse .ensures ∙ sym (refuse-stops 4 0 _ (ap not (ne-eqb _ _ (c .before .if1 .taken))))
 
--- src/taking.rt:46:5
 table-check-requires : tie.Need-table-check-requires
 table-check-requires c κs = search needs
 
--- src/taking.rt:40:1
 returns-2 : tie.Need-returns-2
-returns-2 c = ?
+unfolding cardCheck inRange
+returns-2 c = c .table-check .ensures ∙ sym (refuse-passes 4 0 _ (true-not-false (eq-eqb _ _ (c .before .if1 .left))))
 
 pub card-check-spec : {M : Type 1} → statement M
 card-check-spec = tie.close (tie.spec refuse-requires returns table-check-requires returns-2)

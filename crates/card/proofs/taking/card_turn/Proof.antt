@@ -1,42 +1,57 @@
+-- `card::taking::card_turn` meets its contract: the ceiling, and then the byte of the card.
+-- Assumes nothing.
+use mathlib.Core.Path.{sym, ap, _∙_}
+use Prim.Native.Nat.{_<_}
+use native.Mathlib.Omega.{arith}
+use denote.Ref.{now}
+use borrow.Author.Tests.{le-leb, lt-leb}
+use Rattle.meaning.specs.Answers.{given}
+use Rattle.meaning.specs.Cards.{cardLook, cardTurn}
+use Rattle.meaning.proofs.laws.Answered.{refuse-stops, refuse-passes}
+use Rattle.card.specs.Taking.{takingSays}
+use Rattle.card.proofs.Taken.{byte-none, byte-state}
 use borrow.Author.Needs.{needs}
 use Rattle.card.proofs.taking.card_turn.Statement.{statement}
 use Rattle.card.proofs.taking.card_turn.Tie as tie
-use Rattle.card.proofs.taking.card_turn.Reads as reads
-use Rattle.card.proofs.taking.card_turn.Lts as lts
-use Rattle.card.proofs.taking.refused_at.Reads as refused-at-reads
-use Rattle.turning.proofs.turns.looked.Reads as looked-reads
 
--- src/taking.rt:55:9
 refused-at-requires : tie.Need-refused-at-requires
 refused-at-requires c κs = search needs
 
--- src/taking.rt:55:9
 returns : tie.Need-returns
-returns c = ?
+unfolding cardTurn
+returns c = c .refused-at .ensures ∙ sym (refuse-stops 9 _ _ (le-leb _ _ (c .before .if1 .taken)))
 
--- src/taking.rt:57:17
 cast-place : tie.Need-cast-place
 cast-place c = search needs
 
--- src/taking.rt:58:16
 shared-slice-read-byte : tie.Need-shared-slice-read-byte
 shared-slice-read-byte c = search needs
 
--- src/taking.rt:60:9
 refused-at-requires-2 : tie.Need-refused-at-requires-2
 refused-at-requires-2 c κs = search needs
 
--- src/taking.rt:60:9
 returns-2 : tie.Need-returns-2
-returns-2 c = ?
+unfolding takingSays cardTurn cardLook
+returns-2 c =
+    let s = c .before .before .before .before .before .before .before in
+    let r = s .args .reading in
+    let below : r .looks < s .args .ceiling = omega arith in
+    c .refused-at2 .ensures
+    ∙ sym (refuse-passes 9 _ _ (lt-leb _ _ below)
+    ∙ ap (cardLook r) (byte-none (now (s .args .card)) (r .state) (s .pre .1) (c .before .if2 .taken)))
 
--- src/taking.rt:62:19
 looked-requires : tie.Need-looked-requires
 looked-requires c κs = search needs
 
--- src/taking.rt:50:1
 returns-3 : tie.Need-returns-3
-returns-3 c = ?
+unfolding takingSays cardTurn cardLook
+returns-3 c =
+    let s = c .before .before .before .before .before .before .before in
+    let r = s .args .reading in
+    let below : r .looks < s .args .ceiling = omega arith in
+    ap given (c .looked .ensures)
+    ∙ sym (refuse-passes 9 _ _ (lt-leb _ _ below)
+    ∙ ap (cardLook r) (byte-state (now (s .args .card)) (r .state) (s .pre .1) (c .before .if2 .left)))
 
 pub card-turn-spec : {M : Type 1} → statement M
 card-turn-spec =

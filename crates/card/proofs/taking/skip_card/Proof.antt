@@ -1,45 +1,52 @@
+-- `card::taking::skip_card` meets its contract: the event limit, a settled level, and otherwise a look.
+-- Assumes nothing.
+use mathlib.Core.Path.{sym, ap, _∙_}
+use Prim.Native.Nat.{_<_}
+use native.Mathlib.Omega.{arith}
+use borrow.Author.Tests.{le-leb, lt-leb}
+use Rattle.meaning.specs.Answers.{given}
+use Rattle.meaning.specs.Cards.{skipCard}
+use Rattle.meaning.proofs.laws.Answered.{refuse-stops, refuse-passes, if-true, if-false}
+use Rattle.card.specs.Taking.{takingSays}
 use borrow.Author.Needs.{needs}
 use Rattle.card.proofs.taking.skip_card.Statement.{statement}
 use Rattle.card.proofs.taking.skip_card.Tie as tie
-use Rattle.card.proofs.taking.skip_card.Reads as reads
-use Rattle.card.proofs.taking.skip_card.Lts as lts
-use Rattle.card.proofs.taking.card_turn.Reads as card-turn-reads
-use Rattle.card.proofs.taking.refused_at.Reads as refused-at-reads
-use Rattle.turning.proofs.settling.is_held.Reads as is-held-reads
-use Rattle.turning.proofs.settling.is_settled.Reads as is-settled-reads
-use Rattle.turning.proofs.turns.passed.Reads as passed-reads
 
--- src/taking.rt:71:9
 refused-at-requires : tie.Need-refused-at-requires
 refused-at-requires c κs = search needs
 
--- src/taking.rt:71:9
 returns : tie.Need-returns
-returns c = ?
+unfolding skipCard
+returns c = c .refused-at .ensures ∙ sym (refuse-stops 16 _ _ (le-leb _ _ (c .before .if1 .taken)))
 
--- src/taking.rt:73:9
 is-held-requires : tie.Need-is-held-requires
 is-held-requires c κs = search needs
 
--- src/taking.rt:74:8
 is-settled-requires : tie.Need-is-settled-requires
 is-settled-requires c κs = search needs
 
--- src/taking.rt:75:30
 passed-requires : tie.Need-passed-requires
 passed-requires c κs = search needs
 
--- src/taking.rt:75:9
 returns-2 : tie.Need-returns-2
-returns-2 c = ?
+unfolding takingSays skipCard
+returns-2 c =
+    let s = c .before .before .before .before .before .before .before .before in
+    let more : s .args .reading .taken < 4294967295 = omega arith in
+    let asked = c .before .before .is-settled .ensures (s .args .top) (c .before .before .before .is-held .ensures) in
+    ap given (c .passed .ensures)
+    ∙ sym (refuse-passes 16 _ _ (lt-leb _ _ more) ∙ if-true _ _ (sym asked ∙ c .before .if2 .taken))
 
--- src/taking.rt:82:5
 card-turn-requires : tie.Need-card-turn-requires
 card-turn-requires c κs = search needs
 
--- src/taking.rt:66:1
 returns-3 : tie.Need-returns-3
-returns-3 c = ?
+unfolding takingSays skipCard
+returns-3 c =
+    let s = c .before .before .before .before .before .before .before .before in
+    let more : s .args .reading .taken < 4294967295 = omega arith in
+    let asked = c .before .before .is-settled .ensures (s .args .top) (c .before .before .before .is-held .ensures) in
+    c .card-turn .ensures ∙ sym (refuse-passes 16 _ _ (lt-leb _ _ more) ∙ if-false _ _ (sym asked ∙ c .before .if2 .left))
 
 pub skip-card-spec : {M : Type 1} → statement M
 skip-card-spec =
