@@ -3,3 +3,4 @@ pub mod OfHedges
 pub mod WithCards
 pub mod Demand3Cards
 pub mod CardCalls
+pub mod Blocks
