@@ -15,9 +15,11 @@
 
 #![forbid(unsafe_code)]
 
+pub mod all_documents;
 pub mod book;
 pub mod calls;
 pub mod check;
+pub mod congruence;
 pub mod hedge;
 pub mod numbers;
 pub mod positions;

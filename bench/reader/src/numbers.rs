@@ -42,6 +42,8 @@ pub const EVENTS_USED_UP: u8 = 16;
 pub const NO_TREE_START: u8 = 17;
 /// No tree move; place: the event.
 pub const NO_TREE_MOVE: u8 = 18;
+/// More than 16 states, where sets of states are tracked; place 0.
+pub const TOO_MANY_STATES: u8 = 19;
 
 /// A number with its place.
 #[derive(Clone, Copy, Debug, PartialEq, Eq, Hash)]
