@@ -7,3 +7,4 @@ pub mod stores
 pub mod demand3
 pub mod program
 pub mod Cases
+pub mod congruence

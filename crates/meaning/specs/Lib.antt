@@ -11,3 +11,6 @@ pub mod Calls
 pub mod Demands
 pub mod Cases
 pub mod CheckProgram
+pub mod StateSets
+pub mod Differences
+pub mod SetTurns

@@ -66,3 +66,6 @@ pub struct Fed {
     pub reading: Reading,
     pub ended: Feeding,
 }
+
+// The data of the second way of reading.
+pub mod sets;

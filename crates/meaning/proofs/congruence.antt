@@ -1,0 +1,3 @@
+-- The second way of reading: sets of states, difference relations, and that it ends as full reading does.
+pub mod Sets
+pub mod Relations
