@@ -11,6 +11,7 @@ pub mod Calls
 pub mod Demands
 pub mod Cases
 pub mod CheckProgram
+pub mod OpenLevels
 pub mod StateSets
 pub mod Differences
 pub mod SetTurns

@@ -2,12 +2,13 @@
 -- stopped or not; on a stopped level only the close that ends it is a look.
 use Prim.Native.Nat.{ℕ, _+_, _-_}
 use mathlib.Core.Bool.{Bool}
-use mathlib.Core.List.{List, [], _∷_}
+use mathlib.Core.List.{List, []}
 use Rattle.meaning.specs.declared.sets.SetReading.{SetReading}
 use Rattle.meaning.specs.declared.sets.SetLevel.{SetLevel}
 use Rattle.meaning.specs.Answers.{Answer, given, refuse_at_when_otherwise_, _giving_, _≤?_, _<?_, _=?_, if_then_else_}
 use Rattle.meaning.specs.RuleFile.{Rule, classOf}
 use Rattle.meaning.specs.FullReading.{Event, opens, closes, letter, eventOf, mostEvents, Table, letterTable, startTable, treeTable, noMoveNumber, Went, feedBy}
+use Rattle.meaning.specs.OpenLevels.{TurnOf, stays, stores, ends, RunOf, innermostOf, runAfterOf}
 use Rattle.meaning.specs.StateSets.{someIn, only, reachable, letterMoves, treeStarts, treeMoves}
 use Rattle.meaning.specs.Differences.{topRelation, lowerRelation, stopped, counting}
 
@@ -33,57 +34,51 @@ newSetLevel r = record { set = r .set; relation = r .relation; opened = r .taken
 
 -- ---- one event
 
--- What one event leads to, apart from the reading after it: the open levels stay, one more is stored, or the innermost ends.
-pub data SetTurn : Type 0 where
-  setStays : SetReading → SetTurn
-  setStores : SetLevel → SetReading → SetTurn
-  setEnds : SetReading → SetTurn
-
 -- A look: where the set that the moves lead to is empty, it is refused with the number of the move tried.
-unfoldable pub setLook : Table → ℕ → ℕ → SetTurn → Answer SetTurn
+unfoldable pub setLook : Table → ℕ → ℕ → TurnOf SetReading SetLevel → Answer (TurnOf SetReading SetLevel)
 setLook table place set turn = refuse noMoveNumber table at place when set =? 0 otherwise given turn
 
 -- the close that ends a level, with these lower states
-unfoldable pub setCloses : Rule → ℕ → SetReading → SetLevel → ℕ → Answer SetTurn
+unfoldable pub setCloses : Rule → ℕ → SetReading → SetLevel → ℕ → Answer (TurnOf SetReading SetLevel)
 setCloses R ceiling r top lowers =
     let next : ℕ = treeMoves R (top .set) lowers in
     refuse 7 at r .taken when r .depth =? 0 otherwise
     refuse 9 at r .taken when ceiling ≤? r .looks otherwise
-    setLook treeTable (r .taken) next (setEnds (setLooked r next (top .relation) (r .depth - 1)))
+    setLook treeTable (r .taken) next (ends (setLooked r next (top .relation) (r .depth - 1)))
 
 -- Not stopped: a letter takes each state of the set to its letter move; an open stores set, relation and place and goes on with
 -- the tree start alone; a close takes every pair of a state above and a state of the set to its tree move.
-unfoldable pub movingTurn : Rule → ℕ → ℕ → SetReading → SetLevel → Event → Answer SetTurn
+unfoldable pub movingTurn : Rule → ℕ → ℕ → SetReading → SetLevel → Event → Answer (TurnOf SetReading SetLevel)
 movingTurn R room ceiling r top (letter a) =
     let next : ℕ = letterMoves R (r .set) a in
     refuse 9 at r .taken when ceiling ≤? r .looks otherwise
-    setLook letterTable (r .taken) next (setStays (setLooked r next (r .relation) (r .depth)))
+    setLook letterTable (r .taken) next (stays (setLooked r next (r .relation) (r .depth)))
 movingTurn R room ceiling r top opens =
     let next : ℕ = treeStarts R in
     refuse 8 at r .taken when room ≤? r .depth otherwise
     refuse 9 at r .taken when ceiling ≤? r .looks otherwise
     setLook startTable (r .taken) next
-    (setStores (newSetLevel r) (setLooked r next (lowerRelation R (r .set) (r .relation)) (r .depth + 1)))
+    (stores (newSetLevel r) (setLooked r next (lowerRelation R (r .set) (r .relation)) (r .depth + 1)))
 movingTurn R room ceiling r top closes = setCloses R ceiling r top (r .set)
 
 -- Stopped: letters, opens and inner closes are no looks and change the skip depth alone; the close that ends the level is one
 -- look, with all states reachable from the set as lower states.
-unfoldable pub stoppedTurn : Rule → ℕ → SetReading → SetLevel → Event → Answer SetTurn
-stoppedTurn R ceiling r top (letter a) = given (setStays (setPassed r (r .skip)))
-stoppedTurn R ceiling r top opens = given (setStays (setPassed r (r .skip + 1)))
+unfoldable pub stoppedTurn : Rule → ℕ → SetReading → SetLevel → Event → Answer (TurnOf SetReading SetLevel)
+stoppedTurn R ceiling r top (letter a) = given (stays (setPassed r (r .skip)))
+stoppedTurn R ceiling r top opens = given (stays (setPassed r (r .skip + 1)))
 stoppedTurn R ceiling r top closes =
     if 0 <? r .skip
-    then given (setStays (setPassed r (r .skip - 1)))
+    then given (stays (setPassed r (r .skip - 1)))
     else setCloses R ceiling r top (reachable R (r .set))
 
-unfoldable pub setTurn : Rule → ℕ → ℕ → SetReading → SetLevel → Event → Answer SetTurn
+unfoldable pub setTurn : Rule → ℕ → ℕ → SetReading → SetLevel → Event → Answer (TurnOf SetReading SetLevel)
 setTurn R room ceiling r top e =
     if stopped R (r .set) (r .relation)
     then stoppedTurn R ceiling r top e
     else movingTurn R room ceiling r top e
 
 -- each event: 16, 10, and then what its turn says
-unfoldable pub setEvent : Rule → ℕ → ℕ → SetReading → SetLevel → ℕ → Answer SetTurn
+unfoldable pub setEvent : Rule → ℕ → ℕ → SetReading → SetLevel → ℕ → Answer (TurnOf SetReading SetLevel)
 setEvent R room ceiling r top e =
     refuse 16 at r .taken when mostEvents ≤? r .taken otherwise
     refuse 10 at r .taken when R .letters + 2 ≤? e otherwise
@@ -91,30 +86,16 @@ setEvent R room ceiling r top e =
 
 -- ---- a reading with its open levels, the innermost first
 
-pub record SetRun : Type 0 where
-  pub reading : SetReading
-  pub levels : List SetLevel
+abbrev pub SetRun : Type 0
+SetRun = RunOf SetReading SetLevel
 
 -- a record that stands for nothing
 unfoldable pub blankSets : SetLevel
 blankSets = record { set = 0; relation = []; opened = 0 }
 
-unfoldable pub innermostSets : List SetLevel → SetLevel
-innermostSets [] = blankSets
-innermostSets (l ∷ ls) = l
-
-unfoldable pub outerSets : List SetLevel → List SetLevel
-outerSets [] = []
-outerSets (l ∷ ls) = ls
-
-unfoldable pub setRunAfter : List SetLevel → SetTurn → SetRun
-setRunAfter ls (setStays r) = record { reading = r; levels = ls }
-setRunAfter ls (setStores l r) = record { reading = r; levels = l ∷ ls }
-setRunAfter ls (setEnds r) = record { reading = r; levels = outerSets ls }
-
 unfoldable pub setStep : Rule → ℕ → ℕ → SetRun → ℕ → Answer SetRun
 setStep R room ceiling m e =
-    setEvent R room ceiling (m .reading) (innermostSets (m .levels)) e giving λ turn. given (setRunAfter (m .levels) turn)
+    setEvent R room ceiling (m .reading) (innermostOf blankSets (m .levels)) e giving λ turn. given (runAfterOf (m .levels) turn)
 
 -- before the first event
 abbrev pub freshSetRun : Rule → SetRun
@@ -142,4 +123,4 @@ setEndOf R r top =
     given (setClass R (counting R (r .set) (r .relation)))
 
 abbrev pub setEndOfRun : Rule → SetRun → Answer ℕ
-setEndOfRun R m = setEndOf R (m .reading) (innermostSets (m .levels))
+setEndOfRun R m = setEndOf R (m .reading) (innermostOf blankSets (m .levels))

@@ -20,10 +20,11 @@ use Rattle.meaning.specs.FullReading.{Event, opens, closes, letter, even
 use Rattle.meaning.specs.FullReading.{Turn, look, looked, newLevel, fullTurn, knownEvent, fullEvent, fullStep}
 use Rattle.meaning.specs.FullReading.{Run, innermost, outer, runAfter, freshReading}
 use Rattle.meaning.specs.Calls.{Judged, endOf, endOfRun}
+use Rattle.meaning.specs.OpenLevels.{TurnOf, innermostOf, outerOf, runAfterOf}
 use Rattle.meaning.specs.StateSets.{mostSetStates, someIn, only, reachable, letterMoves, treeStarts, treeMoves}
 use Rattle.meaning.specs.Differences.{acceptsAndRejects, topRelation, lowerRelation, stopped, counting}
-use Rattle.meaning.specs.SetTurns.{freshSets, setLooked, setPassed, newSetLevel, SetTurn, setLook, setCloses, movingTurn, stoppedTurn, setTurn, setEvent}
-use Rattle.meaning.specs.SetTurns.{SetRun, innermostSets, outerSets, setRunAfter, setStep, freshSetRun, setRun, setClass, setEndOf, setEndOfRun}
+use Rattle.meaning.specs.SetTurns.{freshSets, setLooked, setPassed, newSetLevel, setLook, setCloses, movingTurn, stoppedTurn, setTurn, setEvent}
+use Rattle.meaning.specs.SetTurns.{SetRun, blankSets, setStep, freshSetRun, setRun, setClass, setEndOf, setEndOfRun}
 use Rattle.meaning.proofs.laws.Answered.{if-true, if-false, both-true, refuse-given, refuse-passes}
 use Rattle.meaning.proofs.laws.Truths.{true-is-not-false, by-cases, not-true-false}
 use Rattle.meaning.proofs.laws.Events.{known-letter}
@@ -88,7 +89,7 @@ around-least rule few (under {s} member fits same rest) = rw same (lower-least r
 
 -- ---- a look of both
 
-pub look-sets : {P : Turn → SetTurn → Type 0} (table : Table) (place place′ : ℕ) (move : Move) {next : ℕ → Turn} (set : ℕ) {turn : SetTurn}
+pub look-sets : {P : Turn → TurnOf SetReading SetLevel → Type 0} (table : Table) (place place′ : ℕ) (move : Move) {next : ℕ → Turn} (set : ℕ) {turn : TurnOf SetReading SetLevel}
     → ((q : ℕ) → move ≡ to q → ((set =? 0) ≡ false) × Follows P (given (next q)) (given turn))
     → Follows P (look table place move next) (setLook table place′ set turn)
 unfolding setLook
@@ -107,8 +108,8 @@ pub record Kept (R : Rule) (taken : ℕ) (m : Run) (s : SetRun) : Type 0 where
   pub counted : s .reading .taken ≡ taken
 
 -- what an event leads to, in full reading and in the second way
-abbrev After : Rule → List Level → SetReading → List SetLevel → Turn → SetTurn → Type 0
-After R ls r′ σ turn turn′ = Kept R (r′ .taken + 1) (runAfter ls turn) (setRunAfter σ turn′)
+abbrev After : Rule → List Level → SetReading → List SetLevel → Turn → TurnOf SetReading SetLevel → Type 0
+After R ls r′ σ turn turn′ = Kept R (r′ .taken + 1) (runAfter ls turn) (runAfterOf σ turn′)
 
 -- the two stand together on one level, which may have stopped
 meet : {R : Rule} {n : ℕ} (r : Reading) (ls : List Level) (r′ : SetReading) (σ : List SetLevel) → IsRule R → r′ .taken ≡ n
@@ -131,8 +132,8 @@ module _ {R : Rule} (rule : IsRule R) (few : R .states ≤ mostSetStates) (room 
   -- the close that ends a level, with lower states that hold full reading's and are compatible with the relation
   close-turn : {ls : List Level} {σ : List SetLevel} → Counts r [] r′ σ → Around R ls σ (r′ .relation) → (lowers : ℕ)
       → Member R lowers (r .state) → Compatible R lowers (r′ .relation)
-      → Follows (After R ls r′ σ) (fullTurn R room ceiling r (innermost ls) closes) (setCloses R ceiling r′ (innermostSets σ) lowers)
-  unfolding fullTurn setCloses innermost innermostSets runAfter setRunAfter outer outerSets looked setLooked
+      → Follows (After R ls r′ σ) (fullTurn R room ceiling r (innermost ls) closes) (setCloses R ceiling r′ (innermostOf blankSets σ) lowers)
+  unfolding fullTurn setCloses innermost innermostOf runAfter runAfterOf outer outerOf looked setLooked
   close-turn counts (atTop same) lowers member fits =
       refuse-first 7 _ _ λ deep. true-is-not-false (eq-eqb (r .depth) 0 (omega arith)) deep
   close-turn counts (under {l} {s} {ls} {σ} upper above same rest) lowers member fits =
@@ -151,8 +152,8 @@ module _ {R : Rule} (rule : IsRule R) (few : R .states ≤ mostSetStates) (room 
   -- a level that is not stopped: the two stand together
   moving-turn : {ls : List Level} (σ : List SetLevel) → Alongside R r [] ls r′ σ → (v : Event)
       → ((a : ℕ) → v ≡ letter a → a < R .letters) → Member R (r′ .set) (r .state)
-      → Follows (After R ls r′ σ) (fullTurn R room ceiling r (innermost ls) v) (movingTurn R room ceiling r′ (innermostSets σ) v)
-  unfolding fullTurn movingTurn runAfter setRunAfter looked setLooked newLevel newSetLevel
+      → Follows (After R ls r′ σ) (fullTurn R room ceiling r (innermost ls) v) (movingTurn R room ceiling r′ (innermostOf blankSets σ) v)
+  unfolding fullTurn movingTurn runAfter runAfterOf looked setLooked newLevel newSetLevel
   moving-turn {ls} σ along (letter a) known member =
       refuse-each 9 _ _ _ _ (not-sooner ceiling (r .looks) (r′ .looks) (along .counts .looks))
       λ free. look-sets letterTable _ _ _ _
@@ -197,8 +198,8 @@ module _ {R : Rule} (rule : IsRule R) (few : R .states ≤ mostSetStates) (room 
 
   stopped-turn : {τ ls : List Level} (σ : List SetLevel) → Alongside R r τ ls r′ σ → (v : Event)
       → ((a : ℕ) → v ≡ letter a → a < R .letters) → stopped R (r′ .set) (r′ .relation) ≡ true
-      → Follows (After R (τ ++ ls) r′ σ) (fullTurn R room ceiling r (innermost (τ ++ ls)) v) (stoppedTurn R ceiling r′ (innermostSets σ) v)
-  unfolding fullTurn stoppedTurn runAfter setRunAfter innermost outer newLevel looked setPassed
+      → Follows (After R (τ ++ ls) r′ σ) (fullTurn R room ceiling r (innermost (τ ++ ls)) v) (stoppedTurn R ceiling r′ (innermostOf blankSets σ) v)
+  unfolding fullTurn stoppedTurn runAfter runAfterOf innermost outer newLevel looked setPassed
   stopped-turn {τ} σ along (letter a) known stops =
       refuse-first 9 _ _ λ free. look-first letterTable _ _ λ q leads. bothGive
       (stand along stops (looked r q (r .depth)) τ (r′ .skip) (omega arith)
@@ -220,14 +221,14 @@ module _ {R : Rule} (rule : IsRule R) (few : R .states ≤ mostSetStates) (room 
 
   unstopped-turn : {τ ls : List Level} (σ : List SetLevel) → Alongside R r τ ls r′ σ → (v : Event)
       → ((a : ℕ) → v ≡ letter a → a < R .letters) → stopped R (r′ .set) (r′ .relation) ≡ false
-      → Follows (After R (τ ++ ls) r′ σ) (fullTurn R room ceiling r (innermost (τ ++ ls)) v) (movingTurn R room ceiling r′ (innermostSets σ) v)
+      → Follows (After R (τ ++ ls) r′ σ) (fullTurn R room ceiling r (innermost (τ ++ ls)) v) (movingTurn R room ceiling r′ (innermostOf blankSets σ) v)
   unstopped-turn {τ = []} σ along v known moves = moving-turn σ along v known (along .together moves .1)
   unstopped-turn {τ = l ∷ τ} σ along v known moves =
       let none = along .together moves .0 in
       let z : _≡_ {A = ℕ} 0 1 = cc in absurd (omega arith)
 
   event-kept : {τ ls : List Level} (σ : List SetLevel) → Alongside R r τ ls r′ σ → (e : ℕ)
-      → Follows (After R (τ ++ ls) r′ σ) (fullEvent R room ceiling r (innermost (τ ++ ls)) e) (setEvent R room ceiling r′ (innermostSets σ) e)
+      → Follows (After R (τ ++ ls) r′ σ) (fullEvent R room ceiling r (innermost (τ ++ ls)) e) (setEvent R room ceiling r′ (innermostOf blankSets σ) e)
   unfolding fullEvent setEvent knownEvent setTurn
   event-kept σ along e =
       refuse-each 16 _ _ _ _ (λ free. rw (along .counts .taken) at free)
@@ -317,3 +318,25 @@ module _ {R : Rule} (rule : IsRule R) (few : R .states ≤ mostSetStates) where
       let class : classOf R (r .state) ≡ j .class = cc (passes .1) in
       refuse-passes 12 _ _ (le-ltb 0 (r′ .depth + r′ .skip) (omega (arith, along .counts .depth)))
       ∙ ap given (top-same τ along (along .around) (omega (arith, along .counts .skip, along .counts .stored)) (rw class schema) ∙ class)
+
+-- ---- the promise
+
+-- it takes all events, ends with that class, and makes no more looks than there are events
+pub record SetsEndAlike (R : Rule) (room ceiling : ℕ) (es : List ℕ) (class : ℕ) : Type 0 where
+  pub takesAll : setRun R room ceiling es .ended ≡ given tt
+  pub verdict : setEndOfRun R (setRun R room ceiling es .last) ≡ given class
+  pub few : setRun R room ceiling es .last .reading .looks ≤ length es
+
+looks-few : {R : Rule} {m : Run} {s : SetRun} → Simulates R m s → s .reading .looks ≤ s .reading .taken
+looks-few (simulates along) = along .counts .few
+
+pub sets-end-alike : {R : Rule} → IsRule R → R .states ≤ mostSetStates → (room ceiling : ℕ) (es : List ℕ) {j : Judged}
+    → fullRun R room ceiling es .ended ≡ given tt → endOfRun R (fullRun R room ceiling es .last) ≡ given j → InSchema (j .class)
+    → SetsEndAlike R room ceiling es (j .class)
+sets-end-alike {R} rule few room ceiling es all judged schema =
+    let kept = both-take rule few room ceiling es all in
+    record {
+      takesAll = kept .0;
+      verdict = ends-alike rule few (kept .1 .related) judged schema;
+      few = omega (arith, looks-few (kept .1 .related), kept .1 .counted);
+    }
