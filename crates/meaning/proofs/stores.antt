@@ -1,5 +1,6 @@
 -- The calls over the lent level store.
 pub mod Turns
+pub mod AnyStore
 pub mod StoreView
 pub mod KeptReading
 pub mod ReadingCheck

@@ -15,3 +15,4 @@ pub mod OpenLevels
 pub mod StateSets
 pub mod Differences
 pub mod SetTurns
+pub mod SetCalls
