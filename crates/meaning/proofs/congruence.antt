@@ -4,3 +4,5 @@ pub mod Relations
 pub mod Ahead
 pub mod Compatible
 pub mod Promise
+pub mod Turned
+pub mod Stored

@@ -82,23 +82,26 @@ relationOut R relation =
     not (allBelow mostSetStates (λ x. allBelow mostSetStates (λ y.
     not (pair relation x y) || (x <? R .states && (y <? R .states && pair relation y x)))))
 
--- a set or a relation stored below the depth that is out of range
+-- what a level holds is out of range
+unfoldable pub levelOut : Rule → ℕ → List ℕ → Bool
+levelOut R states relation = setOut R states || relationOut R relation
+
+-- so is what is stored of some level below the depth
 unfoldable pub storedOut : Rule → SetReading → SetStore → Bool
 storedOut R r store =
-    not (allBelow (r .depth) (λ i. not (setOut R (setLevelAt store i .set) || relationOut R (setLevelAt store i .relation))))
+    not (allBelow (r .depth) (λ i. not (levelOut R (setLevelAt store i .set) (setLevelAt store i .relation))))
 
 -- Number 13: the reading's set or relation is out of range; the depth is above the store's length; a stored set or relation below
 -- that depth is out of range; the skip depth is above zero on a level that is not stopped; depth plus skip depth, or the looks, are
 -- above the events taken. A relation in range is obeyed as it stands.
 unfoldable pub notSetReading : Rule → SetReading → SetStore → Bool
 notSetReading R r store =
-    setOut R (r .set)
-    || (relationOut R (r .relation)
+    levelOut R (r .set) (r .relation)
     || (setRoom store <? r .depth
     || (storedOut R r store
     || ((0 <? r .skip && not (stopped R (r .set) (r .relation)))
     || (r .taken <? r .depth + r .skip
-    || r .taken <? r .looks)))))
+    || r .taken <? r .looks))))
 
 -- what feed and finish check first: rule, 19, 13
 unfoldable pub setCheck : List ℕ → SetReading → SetStore → Answer Rule
