@@ -6,3 +6,4 @@ pub mod Compatible
 pub mod Promise
 pub mod Turned
 pub mod Stored
+pub mod KeptSets

@@ -284,6 +284,13 @@ module _ {R : Rule} (rule : IsRule R) (few : R .states ≤ mostSetStates) (start
   unfolding leastRelation
   pair-differs {x} {y} p = found-differs 256 x y (p .isPair)
 
+  -- what is found are pairs of states of the rule
+  pub pair-of : (x y : ℕ) → pair least x y ≡ true → Pair R least x y
+  unfolding leastRelation
+  pair-of x y e =
+      let low = in-range R few (endMarks R) start 256 x y e in
+      record { left = low .0; right = low .1; isPair = e }
+
   -- what a further round would find is there
   rested : (x y : ℕ) → pair (pairRound R (endMarks R) least) x y ≡ true → Pair R least x y
   unfolding leastRelation

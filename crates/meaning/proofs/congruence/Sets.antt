@@ -45,6 +45,10 @@ pub where-in : {R : Rule} (test : ℕ → Bool) {p : ℕ} → Member R (statesWh
 unfolding statesWhere
 where-in {R} test {p} member = marked-true (R .states) test p (sym (bit-word _ p) ∙ member .isIn) .1
 
+pub where-low : (R : Rule) (test : ℕ → Bool) (p : ℕ) → bit (statesWhere R test) p ≡ true → p < R .states
+unfolding statesWhere
+where-low R test p isIn = marked-true (R .states) test p (sym (bit-word _ p) ∙ isIn) .0
+
 -- ---- some state of a set
 
 pub in-some : {R : Rule} {set : ℕ} (test : ℕ → Bool) {q : ℕ} → Member R set q → test q ≡ true → someIn R set test ≡ true

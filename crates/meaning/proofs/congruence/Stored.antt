@@ -66,7 +66,7 @@ earlier words i x rows fits n h =
 -- ---- the store
 
 -- a level whose relation has its 16 words is stored as it is
-pub WholeLevel : SetLevel → Type 0
+unfoldable pub WholeLevel : SetLevel → Type 0
 WholeLevel l = length (l .relation) ≡ mostSetStates
 
 room-words : (store : SetStore) (i : ℕ) → i < setRoom store → (i * levelWords + levelWords ≤ length (store .words)) × (i < length (store .places))
@@ -114,7 +114,7 @@ lower-long R states relation = pairs-long R (endMarks R) _ 256
 -- ---- the way
 
 -- a reading whose relation has its 16 words
-pub WholeReading : SetReading → Type 0
+unfoldable pub WholeReading : SetReading → Type 0
 WholeReading r = length (r .relation) ≡ mostSetStates
 
 turn-fits : {R : Rule} {room : ℕ} {r : SetReading} {top : SetLevel} {turn : TurnOf SetReading SetLevel} → WholeReading r → WholeLevel top

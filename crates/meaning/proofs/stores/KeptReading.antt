@@ -38,10 +38,10 @@ is-state : {n q : ℕ} → q < n → isState n q ≡ true
 unfolding isState
 is-state {n} {q} h = lt-ltb q n h
 
-skips-only : (n : ℕ) (b : Bool) → (0 <? n && not b) ≡ false → 0 < n → b ≡ true
+pub skips-only : (n : ℕ) (b : Bool) → (0 <? n && not b) ≡ false → 0 < n → b ≡ true
 skips-only n b e h = not-false-true (rw (lt-ltb 0 n h) at e)
 
-only-skips : (n : ℕ) (b : Bool) → (0 < n → b ≡ true) → (0 <? n && not b) ≡ false
+pub only-skips : (n : ℕ) (b : Bool) → (0 < n → b ≡ true) → (0 <? n && not b) ≡ false
 only-skips n b h =
     not-true-false _ (λ t. let both = and-true (0 <? n) (not b) t in
     true-is-not-false (both .1) (true-not-false (h (ltb-true 0 n (both .0)))))
