@@ -16,3 +16,4 @@ pub mod StateSets
 pub mod Differences
 pub mod SetTurns
 pub mod SetCalls
+pub mod SetDemands

@@ -25,6 +25,7 @@ use Rattle.meaning.specs.StateSets.{mostSetStates, someIn, only, reachab
 use Rattle.meaning.specs.Differences.{acceptsAndRejects, topRelation, lowerRelation, stopped, counting}
 use Rattle.meaning.specs.SetTurns.{freshSets, setLooked, setPassed, newSetLevel, setLook, setCloses, movingTurn, stoppedTurn, setTurn, setEvent}
 use Rattle.meaning.specs.SetTurns.{SetRun, blankSets, setStep, freshSetRun, setRun, setClass, setEndOf, setEndOfRun}
+use Rattle.meaning.specs.SetDemands.{InSchema}
 use Rattle.meaning.proofs.laws.Answered.{if-true, if-false, both-true, refuse-given, refuse-passes}
 use Rattle.meaning.proofs.laws.Truths.{true-is-not-false, by-cases, not-true-false}
 use Rattle.meaning.proofs.laws.Events.{known-letter}
@@ -273,10 +274,6 @@ module _ {R : Rule} (rule : IsRule R) (few : R .states ≤ mostSetStates) (room 
       (freshSetRun R) (record { related = fresh-kept .related; counted = omega (arith, fresh-kept .counted) }) all
 
 -- ---- the end
-
--- a document of the schema ends in class 1 or 2
-pub InSchema : ℕ → Type 0
-InSchema class = (class ≡ 1) ⊎ (class ≡ 2)
 
 module _ {R : Rule} (rule : IsRule R) (few : R .states ≤ mostSetStates) where
   -- The class of one state of a compatible set, if it is in the schema, is the set's.
