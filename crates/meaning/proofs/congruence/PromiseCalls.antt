@@ -162,3 +162,67 @@ module _ (file : List ℕ) {R : Rule} (small : smallRule file ≡ given R) (stor
       finish-checked file small (fed .last .reading) (fed .last .store) (again .reads)
       ∙ (end-same R (fed .last .reading) (fed .last .store)
       ∙ ap (λ (m : SetRun). setEndOf R (m .reading) (innermostOf blankSets (m .levels))) (sym (fed-is-run .viewed)))
+
+-- ---- the theorem
+
+-- what an opening that gave its answer says
+pub record SetOpenSays (file : List ℕ) (first : SetReading) : Type 0 where
+  pub small : smallRule file ≡ given (ruleOf file)
+  pub firstIs : first ≡ freshSets (ruleOf file)
+
+pub set-open-says : (file : List ℕ) {first : SetReading} → setOpenCall file ≡ given first → SetOpenSays file first
+unfolding setOpenCall
+set-open-says file {first} e =
+    let g = giving-given (smallRule file) _ e in
+    let same : ruleOf file ≡ g .0 = accepted-rule file (small-says file (g .1) .accepted) in
+    let isFirst : first ≡ freshSets (g .0) = cc (g .2) in
+    record { small = rw same (g .1); firstIs = rw same isFirst }
+
+-- Wherever full reading ends in class 1 or 2 under some level store and ceiling, the second way, from the reading that opening gave,
+-- ends with the same class under the same, and makes no more looks than there are events.
+pub sets-promise : (file : List ℕ) (store : SetStore) (ceiling : ℕ) (events : List ℕ) {first : SetReading} {j : Judged}
+    → setOpenCall file ≡ given first
+    → fullRun (ruleOf file) (setRoom store) ceiling events .ended ≡ given tt
+    → endOfRun (ruleOf file) (fullRun (ruleOf file) (setRoom store) ceiling events .last) ≡ given j
+    → InSchema (j .class) → SetsReadTo file first store ceiling events (j .class)
+unfolding viewOf
+sets-promise file store ceiling events {first} {j} opened all judged schema =
+    let says = set-open-says file opened in
+    let small = small-says file (says .small) in
+    let alike = sets-end-alike (accepted-is-rule file (small .accepted)) (small .few) (setRoom store) ceiling events all judged schema in
+    let one = fed-is-run file (says .small) store ceiling events in
+    let sameLooks : setRun (ruleOf file) (setRoom store) ceiling events .last .reading .looks
+    ≡ setFeedCall file ceiling (freshSets (ruleOf file)) store events .last .reading .looks =
+    ap (λ (m : SetRun). m .reading .looks) (one .viewed) in
+    rw (says .firstIs)
+    (record {
+      takesAll = one .ended ∙ alike .takesAll;
+      verdict = finish-is-end file (says .small) store ceiling events ∙ alike .verdict;
+      few = omega (arith, sameLooks, alike .few);
+    })
+
+-- ---- the whole-document call
+
+module _ (file : List ℕ) (store : SetStore) (events : List ℕ) where
+  pub whole-refused : {number place : ℕ} → setOpenCall file ≡ refused number place
+      → setWholeDocument file store events ≡ record { answer = refused number place; store = store }
+  unfolding setWholeDocument setWholeFrom
+  whole-refused e = rw (e, setWholeFrom)
+
+  module _ {first : SetReading} (opened : setOpenCall file ≡ given first) where
+    pub whole-opened : setWholeDocument file store events
+        ≡ record {
+          answer = setFinishFed file (setFeedCall file setCeiling first store events);
+          store = setFeedCall file setCeiling first store events .last .store;
+        }
+    unfolding setWholeDocument setWholeFrom
+    whole-opened = rw (opened, setWholeFrom)
+
+    -- wherever full reading under that store and the call's ceiling ends in class 1 or 2, the call answers it
+    pub sets-promise-document : {j : Judged} → fullRun (ruleOf file) (setRoom store) setCeiling events .ended ≡ given tt
+        → endOfRun (ruleOf file) (fullRun (ruleOf file) (setRoom store) setCeiling events .last) ≡ given j → InSchema (j .class)
+        → setWholeDocument file store events .answer ≡ given (j .class)
+    unfolding setFinishFed
+    sets-promise-document all judged schema =
+        let reads = sets-promise file store setCeiling events opened all judged schema in
+        ap (λ (w : SetWhole). w .answer) whole-opened ∙ (giving-passes _ (reads .takesAll) ∙ reads .verdict)
