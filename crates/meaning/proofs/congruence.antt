@@ -1,7 +1,6 @@
 -- The second way of reading: sets of states, difference relations, and that it ends as full reading does.
 pub mod Sets
 pub mod Relations
-pub mod Ahead
 pub mod Compatible
 pub mod Promise
 pub mod Turned

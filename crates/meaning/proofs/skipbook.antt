@@ -1,5 +1,6 @@
 -- The skip book: Reach, the rounds that find it, and the book that is made.
 pub mod Reaching
+pub mod Ahead
 pub mod Marks
 pub mod Rounds
 pub mod Bits

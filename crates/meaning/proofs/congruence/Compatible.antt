@@ -23,7 +23,7 @@ use Rattle.meaning.specs.Differences.{pair, Differ, atStart, mirrored, b
 use Rattle.meaning.proofs.laws.Answered.{both-true, and-true}
 use Rattle.meaning.proofs.laws.Truths.{true-is-not-false}
 use Rattle.meaning.proofs.skipbook.Reaching.{tree-below, start-ends-tree, letter-ends-tree, tree-ends-tree}
-use Rattle.meaning.proofs.congruence.Ahead.{Closed}
+use Rattle.meaning.proofs.skipbook.Ahead.{Closed}
 use Rattle.meaning.proofs.congruence.Sets.{Member, Some, in-some, some-in, none-in, only-in, letter-in, start-in, tree-in}
 use Rattle.meaning.proofs.congruence.Relations.{Pair, BothLead, both-lead, leads-both, pair-differs, start-pair, letter-pair, tree-pair}
 

@@ -34,7 +34,7 @@ use Rattle.meaning.proofs.skipbook.Reaching.{initial-below, reach-lette
 use Rattle.meaning.proofs.congruence.Sets.{Member, Some, not-empty, in-some, some-in, in-only, only-in, in-letter, in-start, in-tree, in-reachable, reachable-in, set-reachable}
 use Rattle.meaning.proofs.congruence.Relations.{Pair, start-pair}
 use Rattle.meaning.proofs.congruence.Compatible.{Compatible, IsLeast, first-compatible, no-accept, top-least, lower-least, letter-compatible, start-compatible, close-compatible, stopped-compatible}
-use Rattle.meaning.proofs.congruence.Ahead.{Ahead, here, inside, Closed, here-in, ahead-letter, ahead-open, ahead-close}
+use Rattle.meaning.proofs.skipbook.Ahead.{Ahead, here, inside, Closed, here-in, ahead-letter, ahead-open, ahead-close}
 
 -- ---- what relates the two readings
 

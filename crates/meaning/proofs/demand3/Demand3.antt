@@ -25,18 +25,12 @@ use Rattle.meaning.proofs.laws.Truths.{true-is-not-false, by-cases, or-
 use Rattle.meaning.proofs.laws.Truths.{and-false-right}
 use Rattle.meaning.proofs.laws.Events.{known-letter}
 use Rattle.meaning.proofs.skipbook.Reaching.{letter-below, tree-below, start-below, initial-below}
-use Rattle.meaning.proofs.skipbook.Reaching.{letter-ends-tree, tree-ends-tree, start-ends-tree}
+use Rattle.meaning.proofs.skipbook.Ahead.{Ahead, here, inside, Closed, here-in, ahead-letter, ahead-open, ahead-close}
 use Rattle.meaning.proofs.skipbook.Reaching.{reach-itself, reach-letter, reach-tree, still-stays, hold-stays, hold-returns}
 use Rattle.meaning.proofs.laws.Following.{Follows, bothGive, refuse-each, refuse-first, if-second, look-first, look-each}
 use Rattle.meaning.proofs.laws.Following.{giving-each, follows-so, where-first-gives, feed-each}
 
 -- ---- what relates the two readings
-
--- Where full reading can be, with state x and the levels τ inside, while skipping stands on a level with state q: on that
--- level, in Reach(q); or inside it, in states that can end a tree.
-pub data Ahead (R : Rule) (q : ℕ) : ℕ → List Level → Type 0 where
-  here : {x : ℕ} → Reach R q x → Ahead R q x []
-  inside : {x : ℕ} {l : Level} {τ : List Level} → CanEndTree R x → Ahead R q (l .above) τ → Ahead R q x (l ∷ τ)
 
 -- the levels outside the one where skipping stands: none is settled
 pub data Outside (R : Rule) (book : List ℕ) : List Level → Type 0 where
@@ -57,7 +51,7 @@ pub record Counts (r : Reading) (τ : List Level) (r′ : Reading) (σ : List Le
 pub record Alongside (R : Rule) (book : List ℕ) (r : Reading) (τ : List Level) (r′ : Reading) (σ : List Level) : Type 0 where
   pub counts : Counts r τ r′ σ
   pub state : r′ .state < R .states
-  pub ahead : Ahead R (r′ .state) (r .state) τ
+  pub ahead : Ahead R (Reach R (r′ .state)) (r .state) τ
   pub together : levelSettled book (r′ .state) σ ≡ false → (τ ≡ []) × (r .state ≡ r′ .state)
   pub outside : Outside R book σ
 
@@ -67,26 +61,13 @@ pub data Simulates (R : Rule) (book : List ℕ) : Run → Run → Type 0 where
 
 -- ---- full reading ahead
 
-here-reach : {R : Rule} {q x : ℕ} → Ahead R q x [] → Reach R q x
-here-reach (here reach) = reach
-
-module _ {R : Rule} (rule : IsRule R) {q : ℕ} where
-  ahead-letter : {x : ℕ} {τ : List Level} (a : ℕ) {y : ℕ} → Ahead R q x τ → a < R .letters → letterMove R x a ≡ to y
-      → Ahead R q y τ
-  ahead-letter a (here reach) known leads = here (reach-letter a reach known leads)
-  ahead-letter a (inside can rest) known leads = inside (letter-ends-tree a can known leads) rest
-
-  ahead-open : (l : Level) {τ : List Level} {y : ℕ} → Ahead R q (l .above) τ → treeStartMove R ≡ to y → Ahead R q y (l ∷ τ)
-  ahead-open l rest leads = inside (start-ends-tree leads) rest
-
-  back-out : {u : ℕ} {τ : List Level} (x : ℕ) {y : ℕ} → Ahead R q u τ → CanEndTree R x → treeMove R u x ≡ to y
-      → Ahead R q y τ
-  back-out x (here reach) can leads = here (reach-tree x reach can leads)
-  back-out x (inside can′ rest) can leads = inside (tree-ends-tree x can′ can leads) rest
-
-  ahead-close : {x : ℕ} {l : Level} {τ : List Level} {y : ℕ} → Ahead R q x (l ∷ τ) → treeMove R (l .above) x ≡ to y
-      → Ahead R q y τ
-  ahead-close (inside {x} can rest) leads = back-out x rest can leads
+-- what Reach holds is closed under moves
+reach-closed : {R : Rule} (q : ℕ) → Closed R (Reach R q)
+reach-closed q =
+    record {
+      letters = λ x a reach known leads. reach-letter a reach known leads;
+      trees = λ x lower reach can leads. reach-tree lower reach can leads;
+    }
 
 -- ---- settled levels
 
@@ -135,13 +116,13 @@ module _ {R : Rule} {book : List ℕ} (rule : IsRule R) (own : IsBook R book) {q
         (held-stays outside (or-true (inStill book q) _ settles moves) reach))
 
     -- ahead of a settled level, full reading stands on a settled level or inside of one
-    ahead-settled : {x : ℕ} {τ : List Level} → Ahead R q x τ
+    ahead-settled : {x : ℕ} {τ : List Level} → Ahead R (Reach R q) x τ
         → (levelSettled book x (τ ++ σ) || outsideSettled book (τ ++ σ)) ≡ true
     unfolding outsideSettled
     ahead-settled (here reach) = or-true-left _ (settled-stays reach)
     ahead-settled (inside {x} {l} {τ} can rest) = or-true-right (levelSettled book x (l ∷ τ ++ σ)) (ahead-settled rest)
 
-    inside-settled : {x : ℕ} {l : Level} {τ : List Level} → Ahead R q x (l ∷ τ) → outsideSettled book (l ∷ τ ++ σ) ≡ true
+    inside-settled : {x : ℕ} {l : Level} {τ : List Level} → Ahead R (Reach R q) x (l ∷ τ) → outsideSettled book (l ∷ τ ++ σ) ≡ true
     unfolding outsideSettled
     inside-settled (inside can rest) = ahead-settled rest
 
@@ -183,7 +164,7 @@ module _ {R : Rule} {book : List ℕ} {n : ℕ} (r r′ : Reading) where
       record { related = simulates along; counted = looks }
 
   -- skipping stands on a settled level, and full reading is ahead
-  stand : (τ σ : List Level) → Counts r τ r′ σ → r′ .state < R .states → Outside R book σ → Ahead R (r′ .state) (r .state) τ
+  stand : (τ σ : List Level) → Counts r τ r′ σ → r′ .state < R .states → Outside R book σ → Ahead R (Reach R (r′ .state)) (r .state) τ
       → levelSettled book (r′ .state) σ ≡ true → r′ .looks ≡ n
       → Kept R book n (record { reading = r; levels = τ ++ σ }) (record { reading = r′; levels = σ })
   stand τ σ counts low outside ahead settles looks =
@@ -255,7 +236,7 @@ module _ {R : Rule} {book : List ℕ} (rule : IsRule R) (own : IsBook R book) (r
   unfolding levelSettled closesStill
   ends-still settles free =
       let still : inStill book (r′ .state) ≡ true = or-true-first _ (levelHeld book (r′ .state) σ) settles free in
-      let same : r .state ≡ r′ .state = still-stays rule own (along .state) still (here-reach (along .ahead)) in
+      let same : r .state ≡ r′ .state = still-stays rule own (along .state) still (here-in (along .ahead)) in
       both-look same closes (rw (same, free, outside-unsettled (along .outside), still))
       (λ is. let z : _≡_ {A = ℕ} 0 1 = cc in absurd (omega arith))
 
@@ -276,7 +257,7 @@ module _ {R : Rule} {book : List ℕ} (rule : IsRule R) (own : IsBook R book) (r
   ends-held [] along settles holds = true-is-not-false holds refl
   ends-held (l ∷ σ) along settles holds =
       let upper = outside-above (along .outside) in
-      let reach = here-reach (along .ahead) in
+      let reach = here-in (along .ahead) in
       let exempt = held-stays rule own (along .state) (along .outside) holds reach in
       refuse-first 7 _ _ λ deep. refuse-first 9 _ _ λ free. look-first treeTable _ _ λ q leads. bothGive
       (meet (looked r q (r .depth - 1)) (passed r′ (l .above) (r′ .depth - 1) (r′ .skip)) σ (omega arith) upper
@@ -286,7 +267,7 @@ module _ {R : Rule} {book : List ℕ} (rule : IsRule R) (own : IsBook R book) (r
   -- skipping stands still on its settled level, full reading moves on, and the event is passed over
   goes-on : {τ σ : List Level} (v : Event) → Alongside R book r τ r′ σ → levelSettled book (r′ .state) σ ≡ true
       → closesStill book (r .state) (τ ++ σ) v ≡ false → (r₁ : Reading) (τ₁ : List Level) (skip : ℕ)
-      → Counts r₁ τ₁ (passed r′ (r′ .state) (r′ .depth) skip) σ → Ahead R (r′ .state) (r₁ .state) τ₁
+      → Counts r₁ τ₁ (passed r′ (r′ .state) (r′ .depth) skip) σ → Ahead R (Reach R (r′ .state)) (r₁ .state) τ₁
       → Kept R book (r′ .looks + (if over book (r .state) (τ ++ σ) v then 0 else 1)) (record { reading = r₁; levels = τ₁ ++ σ })
       (record { reading = passed r′ (r′ .state) (r′ .depth) skip; levels = σ })
   unfolding passed
@@ -302,11 +283,11 @@ module _ {R : Rule} {book : List ℕ} (rule : IsRule R) (own : IsBook R book) (r
   settled-turn {τ} σ along (letter a) known settles =
       refuse-first 9 _ _ λ free. look-first letterTable _ _ λ q leads. bothGive
       (goes-on (letter a) along settles refl (looked r q (r .depth)) τ (r′ .skip) (omega arith)
-      (ahead-letter rule a (along .ahead) (known a refl) leads))
+      (ahead-letter (reach-closed (r′ .state)) a (along .ahead) (known a refl) leads))
   settled-turn {τ} σ along opens known settles =
       refuse-first 8 _ _ λ fits. refuse-first 9 _ _ λ free. look-first startTable _ _ λ q leads. bothGive
       (goes-on opens along settles refl (looked r q (r .depth + 1)) (newLevel r ∷ τ) (r′ .skip + 1) (omega arith)
-      (ahead-open rule (newLevel r) (along .ahead) leads))
+      (ahead-open (reach-closed (r′ .state)) (newLevel r) (along .ahead) leads))
   settled-turn {τ = []} σ along closes known settles =
       let same = held-is book r′ σ (along .counts .stored) in
       if-second _ (λ more. absurd (omega (arith, ltb-true 0 (r′ .skip) more)))
@@ -318,7 +299,7 @@ module _ {R : Rule} {book : List ℕ} (rule : IsRule R) (own : IsBook R book) (r
       if-second _
       (λ more. refuse-first 7 _ _ λ deep. refuse-first 9 _ _ λ free. look-first treeTable _ _ λ q leads. bothGive
       (goes-on closes along settles (and-false-right (not (levelHeld book (r .state) (l ∷ τ ++ σ))) (rw exempt))
-      (looked r q (r .depth - 1)) τ (r′ .skip - 1) (omega arith) (ahead-close rule (along .ahead) leads)))
+      (looked r q (r .depth - 1)) τ (r′ .skip - 1) (omega arith) (ahead-close (reach-closed (r′ .state)) (along .ahead) leads)))
       (λ last. absurd (omega (arith, ltb-false 0 (r′ .skip) last)))
 
   -- On an unsettled level the two stand together, and the event is not passed over.
@@ -409,7 +390,7 @@ unfolding levelSettled levelHeld
 same-state {book} {r′} [] [] rule own along none =
     by-cases (levelSettled book (r′ .state) [])
     (λ settles. still-stays rule own (along .state) (or-true-first (inStill book (r′ .state)) false settles refl)
-    (here-reach (along .ahead)))
+    (here-in (along .ahead)))
     (λ unsettled. along .together unsettled .1)
 same-state [] (l ∷ σ) rule own along none = absurd (omega arith)
 same-state (l ∷ τ) σ rule own along none = absurd (omega arith)
