@@ -19,7 +19,8 @@ use Rattle.meaning.specs.declared.Feeding.{Feeding}
 use Rattle.meaning.specs.declared.Feeding.the-variants as feeding
 use Rattle.meaning.specs.Answers.{Answer, given, refused, refuse_at_when_otherwise_, _andThen_, _giving_, _<?_, if_then_else_}
 use Rattle.meaning.specs.RuleFile.{Rule, isState, classOf, checkRule, ruleOf}
-use Rattle.meaning.specs.FullReading.{Turn, stays, stores, ends, Run, innermost, blank, freshReading, Went, feedBy}
+use Rattle.meaning.specs.FullReading.{Turn, Run, innermost, blank, freshReading, Went, feedBy}
+use Rattle.meaning.specs.OpenLevels.{StoredOf, storedAfterOf}
 use Rattle.meaning.specs.SkipBook.{allBelow, bookCheck, makeBook, bookAfter}
 use Rattle.meaning.specs.Skipping.{settled, skipEvent}
 
@@ -68,19 +69,16 @@ openedBook file book = bookAfter (openCall file book) (ruleOf file) book
 
 -- ---- a reading over the lent level store
 
-pub record Stored : Type 0 where
-  pub reading : Reading
-  pub store : List Level
+abbrev pub Stored : Type 0
+Stored = StoredOf Reading (List Level)
 
 -- the innermost stored record, if the depth is above zero
 unfoldable pub topOf : Reading → List Level → Level
 topOf r store = getD store (r .depth - 1) blank
 
 -- Only an open that is stored writes a record, and only its own; a close clears nothing.
-unfoldable pub storedAfter : Reading → List Level → Turn → Stored
-storedAfter r store (stays r′) = record { reading = r′; store = store }
-storedAfter r store (stores l r′) = record { reading = r′; store = set store (r .depth) l }
-storedAfter r store (ends r′) = record { reading = r′; store = store }
+abbrev pub storedAfter : Reading → List Level → Turn → Stored
+storedAfter r store turn = storedAfterOf (λ s i l. set s i l) (r .depth) store turn
 
 unfoldable pub storeStep : Rule → List ℕ → ℕ → Stored → ℕ → Answer Stored
 storeStep R book ceiling s e =

@@ -6,6 +6,8 @@ use mathlib.Core.List.{List, [], _∷_}
 use Rattle.meaning.specs.declared.Reading.{Reading}
 use Rattle.meaning.specs.declared.Level.{Level}
 use Rattle.meaning.specs.Answers.{Answer, given, refused, refuse_at_when_otherwise_, _giving_, _≤?_, _=?_}
+use Rattle.meaning.specs.OpenLevels.{TurnOf, RunOf, innermostOf, outerOf, runAfterOf}
+pub use Rattle.meaning.specs.OpenLevels.{stays, stores, ends}
 use Rattle.meaning.specs.RuleFile.{Rule, Move, noMove, to, letterMove, treeMove, treeStartMove}
 
 -- ---- events
@@ -48,12 +50,9 @@ noMoveNumber letterTable = 11
 noMoveNumber startTable = 17
 noMoveNumber treeTable = 18
 
--- What one event leads to, apart from the reading after it: the open levels stay, a record is stored for one more level, or
--- the innermost level ends.
-pub data Turn : Type 0 where
-  stays : Reading → Turn
-  stores : Level → Reading → Turn
-  ends : Reading → Turn
+-- what one event leads to, apart from the reading after it
+abbrev pub Turn : Type 0
+Turn = TurnOf Reading Level
 
 -- one look in a table, refused at the event's place where there is no move
 unfoldable pub look : Table → ℕ → Move → (ℕ → Turn) → Answer Turn
@@ -96,27 +95,21 @@ fullEvent R room ceiling r top e = knownEvent R r e (fullTurn R room ceiling r t
 
 -- ---- a reading with its open levels, the innermost first
 
-pub record Run : Type 0 where
-  pub reading : Reading
-  pub levels : List Level
+abbrev pub Run : Type 0
+Run = RunOf Reading Level
 
 -- a record that stands for nothing
 unfoldable pub blank : Level
 blank = record { above = 0; opened = 0 }
 
-unfoldable pub innermost : List Level → Level
-innermost [] = blank
-innermost (l ∷ ls) = l
+abbrev pub innermost : List Level → Level
+innermost ls = innermostOf blank ls
 
--- the levels that stay open when the innermost one ends
-unfoldable pub outer : List Level → List Level
-outer [] = []
-outer (l ∷ ls) = ls
+abbrev pub outer : List Level → List Level
+outer ls = outerOf ls
 
-unfoldable pub runAfter : List Level → Turn → Run
-runAfter ls (stays r) = record { reading = r; levels = ls }
-runAfter ls (stores l r) = record { reading = r; levels = l ∷ ls }
-runAfter ls (ends r) = record { reading = r; levels = outer ls }
+abbrev pub runAfter : List Level → Turn → Run
+runAfter ls turn = runAfterOf ls turn
 
 unfoldable pub fullStep : Rule → ℕ → ℕ → Run → ℕ → Answer Run
 fullStep R room ceiling m e =

@@ -1,6 +1,7 @@
 -- The definitions, a file for each heading of document 01, in its order.
 pub mod Answers
 pub mod RuleFile
+pub mod OpenLevels
 pub mod FullReading
 pub mod Hedges
 pub mod StreamingMachine
@@ -11,7 +12,6 @@ pub mod Calls
 pub mod Demands
 pub mod Cases
 pub mod CheckProgram
-pub mod OpenLevels
 pub mod StateSets
 pub mod Differences
 pub mod SetTurns

@@ -14,6 +14,7 @@ use Rattle.meaning.specs.Answers.{given}
 use Rattle.meaning.specs.RuleFile.{Rule}
 use Rattle.meaning.specs.FullReading.{mostEvents, eventOf, knownEvent, stays, feedBy}
 use Rattle.meaning.specs.Skipping.{held, settled, passed, settledTurn, skipTurn, skipEvent}
+use Rattle.meaning.specs.OpenLevels.{storedAfterOf}
 use Rattle.meaning.specs.Calls.{topOf, storedAfter, storeStep}
 use Rattle.meaning.specs.declared.Level.{Level}
 use Rattle.meaning.specs.declared.Reading.{Reading}
@@ -55,7 +56,7 @@ module _ (R : Rule) (book : List ℕ) (room ceiling : ℕ) (r : Reading) (top : 
 pass-step : (R : Rule) (book : List ℕ) (ceiling : ℕ) (r : Reading) (store : List Level) (e : ℕ)
     → settled book r (topOf r store) ≡ true → r .taken < mostEvents → e < R .letters + 2 → closings e ≤ r .skip
     → storeStep R book ceiling (over r store) e ≡ given (over (passed r (r .state) (r .depth) (r .skip + openings e - closings e)) store)
-unfolding storeStep storedAfter
+unfolding storeStep storedAfterOf
 pass-step R book ceiling r store e is more known h =
     giving-passes _ (pass-event R book (length store) ceiling r (topOf r store) e is more known h)
 

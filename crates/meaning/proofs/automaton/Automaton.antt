@@ -14,6 +14,7 @@ use borrow.Author.Tests.{ltb-true, lt-ltb, leb-true, leb-false, lt-leb, ne-eqb}
 use Rattle.meaning.specs.declared.Level.{Level}
 use Rattle.meaning.specs.Answers.{Answer, given, refused, _giving_, _≤?_, if_then_else_}
 use Rattle.meaning.specs.RuleFile.{Rule, Move, noMove, to, letterMove, treeMove, treeStartMove}
+use Rattle.meaning.specs.OpenLevels.{innermostOf, outerOf, runAfterOf}
 use Rattle.meaning.specs.FullReading.{eventOf, mostEvents, looked, Table, letterTable, startTable, treeTable, noMoveNumber, Turn, stays, stores, ends, look, newLevel, fullTurn, knownEvent, fullEvent, Run, innermost, outer, runAfter, fullStep, Went, feedBy}
 use Rattle.meaning.specs.Hedges.{Hedge, ε, _·_, ⟨_⟩·_, eventsOf, known, Goes, byNothing, byLetter, byTree, Led, toState, missingAt, later, byMove, fromThere, evaluate, height, deepestOn, deepest}
 use Rattle.meaning.specs.StreamingMachine.{Suffices, Comes}
@@ -202,7 +203,7 @@ abbrev pastTree : Run → ℕ → Run
 pastTree m q = runAfter (m .levels) (ends (looked (m .reading) q (m .reading .depth - 1)))
 
 past-ahead : (m : Run) (p p′ q n : ℕ) → pastTree (ahead (inTree m p) p′ n) q ≡ ahead m q (2 + n)
-unfolding runAfter looked newLevel outer
+unfolding runAfterOf looked newLevel outerOf
 past-ahead m p p′ q n =
     let depth : m .reading .depth + 1 - 1 ≡ m .reading .depth = omega arith in
     let taken : m .reading .taken + 1 + n + 1 ≡ m .reading .taken + (2 + n) = omega arith in
@@ -217,7 +218,7 @@ module _ (R : Rule) (room ceiling : ℕ) where
       → Follows (fullStep R room ceiling) m (length (eventsOf h)) rest
       (feedBy (fullStep R room ceiling) m (eventsOf h ++ rest))
       (evaluate R (m .reading .state) h)
-  unfolding eventsOf known height evaluate looked newLevel runAfter innermost outer
+  unfolding eventsOf known height evaluate looked newLevel runAfterOf innermostOf outerOf
   follow ε m rest letters levels looks taken = arrives (ap (λ a. feedBy (fullStep R room ceiling) a rest) (ahead-none m))
   follow (a · h) m rest letters levels looks taken =
       let letter = and-true _ _ letters in

@@ -15,6 +15,7 @@ use Rattle.meaning.specs.declared.Reading.{Reading}
 use Rattle.meaning.specs.declared.Level.{Level}
 use Rattle.meaning.specs.Answers.{Answer, given, refused, _≤?_, _=?_}
 use Rattle.meaning.specs.RuleFile.{Rule, to, letterMove, treeMove, treeStartMove}
+use Rattle.meaning.specs.OpenLevels.{innermostOf, outerOf, runAfterOf}
 use Rattle.meaning.specs.FullReading.{Event, opens, closes, letter, eventOf, mostEvents, looked, newLevel, Turn, stays, stores, ends, fullTurn, knownEvent, fullEvent, Run, innermost, outer, runAfter, fullStep, Went, feedBy}
 use Rattle.meaning.specs.Hedges.{Hedge, ε, _·_, ⟨_⟩·_, eventsOf, Goes, byNothing, byLetter, byTree, deepestOn, deepest}
 use Rattle.meaning.specs.StreamingMachine.{Streams, readsNothing, readsLetter, readsOpen, readsClose, PartialRun, ofHedge, intoTree, aboves, Suffices, WithinLimits, Arrives}
@@ -182,7 +183,7 @@ module _ (R : Rule) (room ceiling : ℕ) where
       → ((r′ : Reading) (ls′ : List Level) → record { reading = r′; levels = ls′ } ≡ runAfter ls turn → r′ .depth ≡ length ls′
       → Went-by R room ceiling r′ ls′ es m)
       → Went-by R room ceiling r ls (e ∷ es) m
-  unfolding eventOf runAfter looked newLevel outer innermost aboves deepest deepestOn
+  unfolding eventOf runAfterOf looked newLevel outerOf innermostOf aboves deepest deepestOn
   first-then r ls (suc (suc a)) es depth (letterTaken b q more below known leads) rest =
       let w = rest (looked r q (r .depth)) ls refl depth in
       record {
@@ -247,7 +248,7 @@ module _ (R : Rule) (room ceiling : ℕ) where
       → r .state ≡ q → aboves ls ≡ σ → r .depth ≡ length ls
       → Suffices room ceiling (record { reading = r; levels = ls }) es
       → Arrives (full r ls es) q′ σ′
-  unfolding runAfter looked newLevel outer innermost aboves deepest deepestOn eventOf
+  unfolding runAfterOf looked newLevel outerOf innermostOf aboves deepest deepestOn eventOf
   machine-read r ls readsNothing state stack depth enough =
       rw (feed-none (fullStep R room ceiling) (record { reading = r; levels = ls }))
       (record { allTaken = refl; inState = state; withStack = stack; stored = depth })

@@ -134,7 +134,7 @@ module _ {R : Rule} (rule : IsRule R) (few : R .states ≤ mostSetStates) (room 
   close-turn : {ls : List Level} {σ : List SetLevel} → Counts r [] r′ σ → Around R ls σ (r′ .relation) → (lowers : ℕ)
       → Member R lowers (r .state) → Compatible R lowers (r′ .relation)
       → Follows (After R ls r′ σ) (fullTurn R room ceiling r (innermost ls) closes) (setCloses R ceiling r′ (innermostOf blankSets σ) lowers)
-  unfolding fullTurn setCloses innermost innermostOf runAfter runAfterOf outer outerOf looked setLooked
+  unfolding fullTurn setCloses innermostOf runAfterOf outerOf looked setLooked
   close-turn counts (atTop same) lowers member fits =
       refuse-first 7 _ _ λ deep. true-is-not-false (eq-eqb (r .depth) 0 (omega arith)) deep
   close-turn counts (under {l} {s} {ls} {σ} upper above same rest) lowers member fits =
@@ -154,7 +154,7 @@ module _ {R : Rule} (rule : IsRule R) (few : R .states ≤ mostSetStates) (room 
   moving-turn : {ls : List Level} (σ : List SetLevel) → Alongside R r [] ls r′ σ → (v : Event)
       → ((a : ℕ) → v ≡ letter a → a < R .letters) → Member R (r′ .set) (r .state)
       → Follows (After R ls r′ σ) (fullTurn R room ceiling r (innermost ls) v) (movingTurn R room ceiling r′ (innermostOf blankSets σ) v)
-  unfolding fullTurn movingTurn runAfter runAfterOf looked setLooked newLevel newSetLevel
+  unfolding fullTurn movingTurn runAfterOf looked setLooked newLevel newSetLevel
   moving-turn {ls} σ along (letter a) known member =
       refuse-each 9 _ _ _ _ (not-sooner ceiling (r .looks) (r′ .looks) (along .counts .looks))
       λ free. look-sets letterTable _ _ _ _
@@ -200,7 +200,7 @@ module _ {R : Rule} (rule : IsRule R) (few : R .states ≤ mostSetStates) (room 
   stopped-turn : {τ ls : List Level} (σ : List SetLevel) → Alongside R r τ ls r′ σ → (v : Event)
       → ((a : ℕ) → v ≡ letter a → a < R .letters) → stopped R (r′ .set) (r′ .relation) ≡ true
       → Follows (After R (τ ++ ls) r′ σ) (fullTurn R room ceiling r (innermost (τ ++ ls)) v) (stoppedTurn R ceiling r′ (innermostOf blankSets σ) v)
-  unfolding fullTurn stoppedTurn runAfter runAfterOf innermost outer newLevel looked setPassed
+  unfolding fullTurn stoppedTurn runAfterOf innermostOf outerOf newLevel looked setPassed
   stopped-turn {τ} σ along (letter a) known stops =
       refuse-first 9 _ _ λ free. look-first letterTable _ _ λ q leads. bothGive
       (stand along stops (looked r q (r .depth)) τ (r′ .skip) (omega arith)

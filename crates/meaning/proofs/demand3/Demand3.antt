@@ -12,6 +12,7 @@ use Rattle.meaning.specs.declared.Reading.{Reading}
 use Rattle.meaning.specs.declared.Level.{Level}
 use Rattle.meaning.specs.Answers.{Answer, given, refused, _≤?_, _<?_, if_then_else_}
 use Rattle.meaning.specs.RuleFile.{Rule, IsRule, to, letterMove, treeMove, treeStartMove}
+use Rattle.meaning.specs.OpenLevels.{innermostOf, outerOf, runAfterOf}
 use Rattle.meaning.specs.FullReading.{Event, opens, closes, letter, eventOf, letterTable, startTable, treeTable, freshRun, fullRun}
 use Rattle.meaning.specs.FullReading.{Turn, ends, looked, newLevel, fullTurn, knownEvent, fullEvent, fullStep}
 use Rattle.meaning.specs.FullReading.{Run, innermost, outer, runAfter, freshReading}
@@ -74,7 +75,7 @@ reach-closed q =
 -- Skipping asks its depth and the innermost record, and what is passed over is said of the levels: the same.
 pub held-is : (book : List ℕ) (r : Reading) (σ : List Level) → r .depth ≡ length σ
     → held book r (innermost σ) ≡ levelHeld book (r .state) σ
-unfolding held levelHeld innermost
+unfolding held levelHeld innermostOf
 held-is book r [] depth = rw (le-ltb 0 (r .depth) (omega arith))
 held-is book r (l ∷ σ) depth = rw (lt-ltb 0 (r .depth) (omega arith))
 
@@ -93,7 +94,7 @@ module _ {R : Rule} {book : List ℕ} where
   outside-above (within low unsettled rest) = low
 
   outside-outer : {σ : List Level} → Outside R book σ → Outside R book (outer σ)
-  unfolding outer
+  unfolding outerOf
   outside-outer atTop = atTop
   outside-outer (within low unsettled rest) = rest
 
@@ -190,7 +191,7 @@ unfolding newLevel
 new-level-same r r′ state taken = λ i. record { above = state i; opened = taken i }
 
 length-outer : (σ : List Level) → length (outer σ) ≡ length σ - 1
-unfolding outer
+unfolding outerOf
 length-outer [] = refl
 length-outer (l ∷ σ) = omega arith
 
@@ -205,7 +206,7 @@ module _ {R : Rule} {book : List ℕ} (rule : IsRule R) (own : IsBook R book) (r
       → (v ≡ opens → levelSettled book (r′ .state) σ ≡ false)
       → Follows (After R book r [] r′ σ v) (fullTurn R room ceiling r (innermost σ) v)
       (fullTurn R room ceiling r′ (innermost σ) v)
-  unfolding fullTurn looked runAfter newLevel
+  unfolding fullTurn looked runAfterOf newLevel
   both-look same (letter a) needed unsettled =
       refuse-each 9 _ _ _ _ below-ceiling
       λ free. look-each letterTable _ _ _ _ (cc)
@@ -253,7 +254,7 @@ module _ {R : Rule} {book : List ℕ} (rule : IsRule R) (own : IsBook R book) (r
       → levelHeld book (r′ .state) σ ≡ true
       → Follows (After R book r [] r′ σ closes) (fullTurn R room ceiling r (innermost σ) closes)
       (given (ends (passed r′ (innermost σ .above) (r′ .depth - 1) (r′ .skip))))
-  unfolding fullTurn looked passed runAfter innermost outer closesStill levelHeld
+  unfolding fullTurn looked passed runAfterOf innermostOf outerOf closesStill levelHeld
   ends-held [] along settles holds = true-is-not-false holds refl
   ends-held (l ∷ σ) along settles holds =
       let upper = outside-above (along .outside) in
@@ -279,7 +280,7 @@ module _ {R : Rule} {book : List ℕ} (rule : IsRule R) (own : IsBook R book) (r
       → ((a : ℕ) → v ≡ letter a → a < R .letters) → levelSettled book (r′ .state) σ ≡ true
       → Follows (After R book r τ r′ σ v) (fullTurn R room ceiling r (innermost (τ ++ σ)) v)
       (settledTurn R book room ceiling r′ (innermost σ) v)
-  unfolding fullTurn settledTurn endsLevel runAfter innermost outer closesStill newLevel looked passed
+  unfolding fullTurn settledTurn endsLevel runAfterOf innermostOf outerOf closesStill newLevel looked passed
   settled-turn {τ} σ along (letter a) known settles =
       refuse-first 9 _ _ λ free. look-first letterTable _ _ λ q leads. bothGive
       (goes-on (letter a) along settles refl (looked r q (r .depth)) τ (r′ .skip) (omega arith)

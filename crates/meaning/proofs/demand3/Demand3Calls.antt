@@ -11,7 +11,9 @@ use Rattle.meaning.specs.declared.Level.{Level}
 use Rattle.meaning.specs.declared.Opening.{Opening}
 use Rattle.meaning.specs.Answers.{given, if_then_else_, _<?_}
 use Rattle.meaning.specs.RuleFile.{Rule, checkRule, ruleOf}
+use Rattle.meaning.specs.OpenLevels.{innermostOf}
 use Rattle.meaning.specs.FullReading.{Went, Run, innermost, freshReading, blank, feedBy, freshRun, fullRun}
+use Rattle.meaning.proofs.stores.AnyStore.{levelsIn}
 use Rattle.meaning.specs.Calls.{Judged, Stored, openCall, openedBook, storeStep, topOf, openPlace, endOf, feedCall, finishCall, readingCheck, endOfRun, ReadsTo}
 use Rattle.meaning.specs.Skipping.{skipRun, Zeros}
 use Rattle.meaning.specs.Demands.{EndsAsFull}
@@ -26,7 +28,7 @@ use Rattle.meaning.proofs.demand3.Demand3.{demand-3}
 place-same : (depth taken : ℕ) (store : List Level)
     → (if 0 <? depth then getD store (depth - 1) blank .opened else taken)
     ≡ (if 0 <? depth then innermost (levelsOf depth store) .opened else taken)
-unfolding innermost levelsOf if_then_else_
+unfolding innermostOf levelsIn if_then_else_
 place-same zero taken store = refl
 place-same (suc d) taken store =
     let down : suc d - 1 ≡ d = omega arith in
@@ -53,7 +55,7 @@ module _ (file book : List ℕ) (store : List Level) (ceiling : ℕ) (events : L
   by-steps = feed-checked file book (freshReading R) store ceiling events checked
 
   pub fed-is-run : OneView (length store) fed run
-  unfolding freshReading levelsOf
+  unfolding freshReading levelsIn
   fed-is-run = rw by-steps (store-is-levels R book ceiling (freshReading R) store events (omega arith))
 
   -- finish answers by the end of the run

@@ -12,6 +12,7 @@ use Rattle.meaning.specs.declared.Reading.{Reading}
 use Rattle.meaning.specs.declared.Level.{Level}
 use Rattle.meaning.specs.Answers.{given, _≤?_, _<?_}
 use Rattle.meaning.specs.RuleFile.{Rule}
+use Rattle.meaning.specs.OpenLevels.{innermostOf, outerOf, runAfterOf}
 use Rattle.meaning.specs.FullReading.{Event, opens, closes, letter, eventOf, mostEvents, letterTable, startTable, treeTable, freshRun}
 use Rattle.meaning.specs.FullReading.{Turn, stays, looked, newLevel, fullTurn, knownEvent}
 use Rattle.meaning.specs.FullReading.{Run, innermost, outer, runAfter, freshReading, Went, feedBy}
@@ -51,12 +52,12 @@ same-aboves [] = noLevel
 same-aboves (l ∷ ls) = andLevel refl (same-aboves ls)
 
 same-outer : {ls ls′ : List Level} → SameAboves ls ls′ → SameAboves (outer ls) (outer ls′)
-unfolding outer
+unfolding outerOf
 same-outer noLevel = noLevel
 same-outer (andLevel same rest) = rest
 
 same-innermost : {ls ls′ : List Level} → SameAboves ls ls′ → innermost ls′ ≡ openedAt (innermost ls′ .opened) (innermost ls)
-unfolding innermost
+unfolding innermostOf
 same-innermost noLevel = refl
 same-innermost (andLevel {l} {l′} same rest) = λ i. record { above = sym same i; opened = l′ .opened }
 
@@ -95,7 +96,7 @@ module _ (R : Rule) (book : List ℕ) (room ceiling : ℕ) (r : Reading) (top : 
 
   full-same : (v : Event)
       → Follows Both (fullTurn R room ceiling r top v) (fullTurn R room ceiling (atPlace t r) (openedAt o top) v)
-  unfolding fullTurn looked newLevel runAfter
+  unfolding fullTurn looked newLevel runAfterOf
   full-same (letter a) =
       refuse-each 9 _ _ _ _ (λ free. free)
       λ free. look-each letterTable _ _ _ _ refl λ q leads. bothGive (further (r .taken) t aboves)
@@ -110,7 +111,7 @@ module _ (R : Rule) (book : List ℕ) (room ceiling : ℕ) (r : Reading) (top : 
 
   settled-same : (v : Event)
       → Follows Both (settledTurn R book room ceiling r top v) (settledTurn R book room ceiling (atPlace t r) (openedAt o top) v)
-  unfolding settledTurn endsLevel held passed runAfter
+  unfolding settledTurn endsLevel held passed runAfterOf
   settled-same (letter a) = bothGive (further (r .taken) t aboves)
   settled-same opens = bothGive (further (r .taken) t aboves)
   settled-same closes =
@@ -214,7 +215,7 @@ module _ (R : Rule) (book : List ℕ) (room ceiling : ℕ) (r : Reading) (ls : L
   -- one event of a well-nested run, with d of its trees open: on the same level, one event more
   nested-step : (t d e : ℕ) (rest : ℕ → Bool) → t < mostEvents → e < R .letters + 2 → nestedOn d (eventOf e) rest ≡ true
       → (d′ : ℕ) × (rest d′ ≡ true) × (skipStep R book room ceiling (onLevel d t) e ≡ given (onLevel d′ (t + 1)))
-  unfolding skipStep skipEvent knownEvent skipTurn settled held runAfter
+  unfolding skipStep skipEvent knownEvent skipTurn settled held runAfterOf
   nested-step t d e rest free known nested =
       let turn = nested-turn t d (eventOf e) rest nested in (
         turn .0,

@@ -12,12 +12,14 @@ use Rattle.meaning.specs.declared.Level.{Level}
 use Rattle.meaning.specs.declared.Opening.{Opening}
 use Rattle.meaning.specs.Answers.{given, _<?_}
 use Rattle.meaning.specs.RuleFile.{Rule, ruleOf}
+use Rattle.meaning.specs.OpenLevels.{innermostOf}
 use Rattle.meaning.specs.FullReading.{Went, innermost, blank, mostEvents}
 use Rattle.meaning.specs.Hedges.{wellNested}
 use Rattle.meaning.specs.SkipBook.{inHold}
 use Rattle.meaning.specs.Skipping.{held, settled, skipRun}
 use Rattle.meaning.specs.PassedOver.{PassedOverPart}
 use Rattle.meaning.specs.Demands.{ReadsSame}
+use Rattle.meaning.proofs.stores.AnyStore.{levelsIn}
 use Rattle.meaning.specs.Calls.{Judged, Stored, openCall, topOf, feedCall, finishCall, endOfRun, ReadsTo}
 use Rattle.meaning.proofs.stores.Opens.{open-says}
 use Rattle.meaning.proofs.stores.StoreView.{levelsOf, OneView}
@@ -28,7 +30,7 @@ use Rattle.meaning.proofs.demand3.Demand3Calls.{fed-is-run, finish-is-e
 held-same : (book : List ℕ) (q depth : ℕ) (store : List Level)
     → (0 <? depth && inHold book (getD store (depth - 1) blank .above) q)
     ≡ (0 <? depth && inHold book (innermost (levelsOf depth store) .above) q)
-unfolding innermost levelsOf
+unfolding innermostOf levelsIn
 held-same book q zero store = refl
 held-same book q (suc d) store =
     let down : suc d - 1 ≡ d = omega arith in

@@ -16,6 +16,7 @@ use Rattle.meaning.specs.RuleFile.{Rule, IsRule, isState}
 use Rattle.meaning.specs.FullReading.{Event, Turn, looked, newLevel, blank, feedBy}
 use Rattle.meaning.specs.SkipBook.{inHold}
 use Rattle.meaning.specs.Skipping.{held, settled, passed}
+use Rattle.meaning.specs.OpenLevels.{storedAfterOf}
 use Rattle.meaning.specs.Calls.{Stored, topOf, storedAfter, storeStep, notReading}
 use Rattle.meaning.proofs.laws.Answered.{and-true, or-false, not-false-true, true-not-false}
 use Rattle.meaning.proofs.laws.Bools.{below, all-below, below-all, both-false, true-is-not-false, not-true-false}
@@ -105,7 +106,7 @@ module _ {R : Rule} (isRule : IsRule R) (book : List ℕ) where
   turn-reading : (r : Reading) (store : List Level) {event : Event} {turn : Turn}
       → IsReading R book r store → Turned R book (length store) r (topOf r store) event turn
       → IsReading R book (storedAfter r store turn .reading) (storedAfter r store turn .store)
-  unfolding storedAfter passed looked
+  unfolding storedAfterOf passed looked
   turn-reading r store i (passes event skip is h) =
       record {
         stateIn = i .stateIn;

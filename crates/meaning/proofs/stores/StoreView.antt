@@ -16,38 +16,31 @@ use Rattle.meaning.specs.Answers.{Answer, given, refused, _giving_}
 use Rattle.meaning.specs.RuleFile.{Rule}
 use Rattle.meaning.specs.FullReading.{Event, opens, closes, letter, eventOf, Turn, Run, Went, looked, newLevel, fullTurn, blank, innermost, outer, runAfter, feedBy}
 use Rattle.meaning.specs.Skipping.{held, settled, passed, endsLevel, settledTurn, skipTurn, skipEvent, skipStep}
+use Rattle.meaning.specs.OpenLevels.{storedAfterOf}
 use Rattle.meaning.specs.Calls.{Stored, topOf, storedAfter, storeStep}
 use Rattle.meaning.proofs.laws.Answered.{if-false, refuse-stops, giving-given}
-use Rattle.meaning.proofs.laws.FeedKeeps.{feed-keeps, feed-keeps-while, feed-viewed}
+use Rattle.meaning.proofs.laws.FeedKeeps.{feed-keeps-while}
+use Rattle.meaning.proofs.stores.AnyStore.{levelsIn, IsStore, IsWay, Fits, staysOn, storesOne, endsOne, viewOf}
+use Rattle.meaning.proofs.stores.AnyStore as any
 use Rattle.meaning.proofs.stores.Turns.{Turned, passes, endsHeld, takesLetter, storesOpen, endsLooked, turned}
 
 -- ---- the records below the depth, the innermost first
 
-unfoldable pub levelsOf : ℕ → List Level → List Level
-levelsOf zero store = []
-levelsOf (suc d) store = getD store d blank ∷ levelsOf d store
+abbrev levelAt : List Level → ℕ → Level
+levelAt store i = getD store i blank
 
--- a record at the depth or past it is none of the open levels
-pub levels-past : (d i : ℕ) (store : List Level) (l : Level) → d ≤ i → levelsOf d (set store i l) ≡ levelsOf d store
-unfolding levelsOf
-levels-past zero i store l h = refl
-levels-past (suc d) i store l h =
-    cc (getD-set-other store i d l blank (omega arith), levels-past d i store l (omega arith))
+abbrev pub levelsOf : ℕ → List Level → List Level
+levelsOf d store = levelsIn levelAt d store
 
-pub levels-more : (d : ℕ) (store : List Level) (l : Level) → d < length store
-    → levelsOf (d + 1) (set store d l) ≡ l ∷ levelsOf d store
-unfolding levelsOf
-levels-more d store l h = rw (add-one d) (cc (getD-set-same store d l blank h, levels-past d d store l (omega arith)))
-
-pub levels-less : (d : ℕ) (store : List Level) → outer (levelsOf d store) ≡ levelsOf (d - 1) store
-unfolding levelsOf outer
-levels-less zero store = refl
-levels-less (suc d) store = let back : suc d - 1 ≡ d = omega arith in rw back
-
-top-is : (d : ℕ) (store : List Level) → 0 < d → innermost (levelsOf d store) ≡ getD store (d - 1) blank
-unfolding levelsOf innermost
-top-is zero store h = absurd (omega arith)
-top-is (suc d) store h = let back : suc d - 1 ≡ d = omega arith in rw back
+-- the slice of records is a store of levels
+is-level-store : IsStore levelAt (λ (s : List Level) i l. set s i l) length (λ l. Unit)
+is-level-store =
+    record {
+      same = λ s i l fits whole. getD-set-same s i l blank fits;
+      other = λ s i j l fits less. getD-set-other s i j l blank (λ same. omega arith);
+      size = λ s i l fits whole. length-set s i l;
+      whole = λ s i. tt;
+    }
 
 -- ---- at the top, where no level is open, no record is read
 
@@ -82,28 +75,7 @@ module _ (R : Rule) (book : List ℕ) (room ceiling : ℕ) (r : Reading) (atTop 
   event-top-free l m e =
       cc (held-at-top l, held-at-top m, full-top-free l m (eventOf e), settled-top-free l m (eventOf e))
 
--- the record that an event reads is the innermost open level's, if it reads one
-same-top : (R : Rule) (book : List ℕ) (room ceiling : ℕ) (r : Reading) (store : List Level) (e : ℕ)
-    → skipEvent R book room ceiling r (innermost (levelsOf (r .depth) store)) e ≡ skipEvent R book room ceiling r (topOf r store) e
-unfolding topOf
-same-top R book room ceiling r store e = go (r .depth) refl
-  where
-    go : (d : ℕ) → r .depth ≡ d
-        → skipEvent R book room ceiling r (innermost (levelsOf (r .depth) store)) e
-        ≡ skipEvent R book room ceiling r (getD store (r .depth - 1) blank) e
-    go zero atTop = event-top-free R book room ceiling r atTop _ _ e
-    go (suc d) deep = ap (λ l. skipEvent R book room ceiling r l e) (top-is (r .depth) store (omega arith))
-
 -- ---- one event
-
--- a reading over the store as a reading with its open levels
-unfoldable pub viewOf : Stored → Run
-viewOf s = record { reading = s .reading; levels = levelsOf (s .reading .depth) (s .store) }
-
--- the store has its size, and the depth lies within it
-pub record InStore (size : ℕ) (s : Stored) : Type 0 where
-  pub stored : length (s .store) ≡ size
-  pub within : s .reading .depth ≤ size
 
 -- the turn of an event that was taken
 pub step-turned : (R : Rule) (book : List ℕ) (ceiling : ℕ) (s t : Stored) (e : ℕ) → storeStep R book ceiling s e ≡ given t
@@ -114,51 +86,26 @@ step-turned R book ceiling s t e h =
     let g = giving-given _ (λ turn. given (storedAfter (s .reading) (s .store) turn)) h in
     (g .0, turned R book (length (s .store)) ceiling (s .reading) (topOf (s .reading) (s .store)) e (g .1), cc (g .2))
 
+-- skipping is a way of reading: it stores an open at its depth, takes one level off at a close, and at the top reads no record
 module _ (R : Rule) (book : List ℕ) (ceiling : ℕ) where
-  turn-within : (r : Reading) (store : List Level) {event : Event} {turn : Turn}
-      → Turned R book (length store) r (topOf r store) event turn → r .depth ≤ length store
-      → InStore (length store) (storedAfter r store turn)
-  unfolding storedAfter looked passed
-  turn-within r store (passes e skip is h) w = record { stored = refl; within = w }
-  turn-within r store (endsHeld is z) w = record { stored = refl; within = omega arith }
-  turn-within r store (takesLetter a q isNot known m) w = record { stored = refl; within = w }
-  turn-within r store (storesOpen q isNot fits m) w =
-      record { stored = length-set store (r .depth) _; within = omega arith }
-  turn-within r store (endsLooked q isNot z deep m) w = record { stored = refl; within = omega arith }
+  abbrev event : ℕ → Reading → Level → ℕ → Answer Turn
+  event room r l e = skipEvent R book room ceiling r l e
 
-  turn-viewed : (r : Reading) (store : List Level) {event : Event} {turn : Turn}
-      → Turned R book (length store) r (topOf r store) event turn
-      → runAfter (levelsOf (r .depth) store) turn ≡ viewOf (storedAfter r store turn)
-  unfolding storedAfter looked passed runAfter viewOf
-  turn-viewed r store (passes e skip is h) = refl
-  turn-viewed r store (endsHeld is z) = cc (levels-less (r .depth) store)
-  turn-viewed r store (takesLetter a q isNot known m) = refl
-  turn-viewed r store (storesOpen q isNot fits m) = cc (levels-more (r .depth) store (newLevel r) fits)
-  turn-viewed r store (endsLooked q isNot z deep m) = cc (levels-less (r .depth) store)
+  turn-fits : {room : ℕ} {r : Reading} {top : Level} {v : Event} {turn : Turn} → Turned R book room r top v turn
+      → Fits (λ (r : Reading). r .depth) (λ r. Unit) (λ l. Unit) room r turn
+  unfolding looked passed
+  turn-fits (passes e skip is h) = staysOn tt refl
+  turn-fits (endsHeld is z) = endsOne tt refl
+  turn-fits (takesLetter a q isNot known m) = staysOn tt refl
+  turn-fits (storesOpen q isNot fits m) = storesOne tt fits tt refl
+  turn-fits (endsLooked q isNot z deep m) = endsOne tt refl
 
-  -- an event keeps the length of the store, and the depth within it
-  pub step-within : (size : ℕ) (s t : Stored) (e : ℕ) → InStore size s → storeStep R book ceiling s e ≡ given t → InStore size t
-  step-within size s t e w h =
-      let g = step-turned R book ceiling s t e h in
-      let after = turn-within (s .reading) (s .store) (g .1) (omega (arith, w .stored, w .within)) in
-      rw (g .2, w .stored) at after
-
-  viewed-turn : (r : Reading) (store : List Level) (x : Answer Turn)
-      → ((turn : Turn) → x ≡ given turn → runAfter (levelsOf (r .depth) store) turn ≡ viewOf (storedAfter r store turn))
-      → (x giving λ turn. given (runAfter (levelsOf (r .depth) store) turn))
-      ≡ ((x giving λ turn. given (storedAfter r store turn)) giving λ t. given (viewOf t))
-  unfolding _giving_
-  viewed-turn r store (given turn) same = ap given (same turn refl)
-  viewed-turn r store (refused number place) same = refl
-
-  step-viewed : (size : ℕ) (s : Stored) (e : ℕ) → InStore size s
-      → skipStep R book size ceiling (viewOf s) e ≡ (storeStep R book ceiling s e giving λ t. given (viewOf t))
-  unfolding skipStep storeStep viewOf
-  step-viewed size s e w =
-      let r : Reading = s .reading in
-      let room : ℕ = length (s .store) in
-      rw (← w .stored, same-top R book room ceiling r (s .store) e)
-      (viewed-turn r (s .store) _ (λ turn t. turn-viewed r (s .store) (turned R book room ceiling r (topOf r (s .store)) e t)))
+  is-skip-way : IsWay (λ (r : Reading). r .depth) (λ r. Unit) (λ l. Unit) event
+  is-skip-way =
+      record {
+        topFree = λ room r l m e atTop. event-top-free R book room ceiling r atTop l m e;
+        fits = λ room r l e turn good whole taken. turn-fits (turned R book room ceiling r l e taken);
+      }
 
 -- ---- any events
 
@@ -174,22 +121,16 @@ pub store-is-levels : (R : Rule) (book : List ℕ) (ceiling : ℕ) (r : Reading)
     → r .depth ≤ length store
     → OneView (length store) (feedBy (storeStep R book ceiling) (record { reading = r; store = store }) es)
     (feedBy (skipStep R book (length store) ceiling) (record { reading = r; levels = levelsOf (r .depth) store }) es)
-unfolding viewOf
+unfolding viewOf storeStep topOf skipStep
 store-is-levels R book ceiling r store es h =
-    let size : ℕ = length store in
     let s : Stored = record { reading = r; store = store } in
-    let start : InStore size s = record { stored = refl; within = h } in
-    let step = storeStep R book ceiling in
-    let keeps = step-within R book ceiling size in
-    let kept = feed-keeps step (InStore size) keeps s es start in
-    let other = skipStep R book size ceiling in
-    let same = feed-viewed step (InStore size) keeps viewOf other (step-viewed R book ceiling size) s es start in
+    let one = any.store-is-levels is-level-store blank (event R book ceiling) (is-skip-way R book ceiling) s es h tt in
     record {
-      ended = sym (ap (λ v. v .ended) same);
-      reading = sym (ap (λ v. v .last .reading) same);
-      levels = ap (λ v. v .last .levels) same;
-      stored = kept .stored;
-      within = kept .within;
+      ended = one .ended;
+      reading = sym (ap (λ m. m .reading) (one .viewed));
+      levels = ap (λ m. m .levels) (one .viewed);
+      stored = one .kept .stored;
+      within = one .kept .within;
     }
 
 -- ---- what a store keeps
@@ -205,7 +146,7 @@ module _ (R : Rule) (book : List ℕ) (ceiling : ℕ) where
   turn-kept : (r : Reading) (store : List Level) (e : ℕ) {event : Event} {turn : Turn} → eventOf e ≡ event
       → Turned R book (length store) r (topOf r store) event turn
       → (storedAfter r store turn .store ≡ store) ⊎ StoredOpen (record { reading = r; store = store }) e (storedAfter r store turn)
-  unfolding storedAfter looked
+  unfolding storedAfterOf looked
   turn-kept r store e known (passes event skip is h) = inl refl
   turn-kept r store e known (endsHeld is z) = inl refl
   turn-kept r store e known (takesLetter a q isNot below m) = inl refl

@@ -13,6 +13,7 @@ use Rattle.meaning.specs.Answers.{Answer, given, refused, refuse_at_when
 use Rattle.meaning.specs.RuleFile.{Rule, Move, noMove, to}
 use Rattle.meaning.specs.FullReading.{Event, opens, closes, letter, eventOf, looked, Table, look, Turn, fullTurn, knownEvent, Went, goOn, feedBy}
 use Rattle.meaning.specs.Skipping.{passed, endsLevel, settledTurn, skipTurn, skipEvent}
+use Rattle.meaning.specs.OpenLevels.{storedAfterOf}
 use Rattle.meaning.specs.Calls.{eventsTaken, StoppedAt, TookFirst, Stored, storedAfter, storeStep, readingCheck, feedCall}
 use Rattle.meaning.proofs.laws.FeedLaws.{feed-taken}
 use Rattle.meaning.proofs.stores.ReadingCheck.{feed-checked, feed-unchecked}
@@ -81,7 +82,7 @@ module _ {A : Type 0} (step : A → ℕ → Answer A) (count : A → ℕ) where
 
 turn-taken : {R : Rule} {book : List ℕ} {room : ℕ} {r : Reading} {top : Level} {event : Event} {turn : Turn} (store : List Level)
     → Turned R book room r top event turn → storedAfter r store turn .reading .taken ≡ r .taken + 1
-unfolding storedAfter looked passed
+unfolding storedAfterOf looked passed
 turn-taken store (passes event skip is h) = refl
 turn-taken store (endsHeld is z) = refl
 turn-taken store (takesLetter a q isNot known m) = refl

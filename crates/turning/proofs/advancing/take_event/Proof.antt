@@ -11,6 +11,7 @@ use lib.Seq.{set-out}
 use Rattle.meaning.specs.Answers.{given, _giving_}
 use Rattle.meaning.specs.RuleFile.{ruleOf}
 use Rattle.meaning.specs.declared.Level.{Level}
+use Rattle.meaning.specs.OpenLevels.{storedAfterOf}
 use Rattle.meaning.specs.Calls.{refusalSays, topOf, storedAfter, storeStep}
 use Rattle.turning.specs.Turns.{turnSays, Stands, over}
 use Rattle.turning.proofs.Steps.{step-of}
@@ -57,22 +58,22 @@ cast-place-2 : tie.Need-cast-place-2
 cast-place-2 c = search needs
 
 returns : tie.Need-returns
-unfolding turnSays _giving_ storedAfter
+unfolding turnSays _giving_ storedAfterOf
 returns c book store stands h top room =
     takes _ h _ (c .before .before .before .before .before .before .before .pre .1 .1 .1 .1) _ _ _ (stepped (c .before .before .before) book store stands top room ∙ rw (c .before .turn .given .1)) (set-out store _ _ (omega arith))
 
 returns-2 : tie.Need-returns-2
-unfolding turnSays _giving_ storedAfter
+unfolding turnSays _giving_ storedAfterOf
 returns-2 c book store stands h top room =
     takes _ h _ (c .before .before .before .before .before .before .before .pre .1 .1 .1 .1) _ _ _ (stepped (c .before .before .before) book store stands top room ∙ rw (c .before .turn2 .given .1)) (set-out store _ _ (omega arith))
 
 returns-3 : tie.Need-returns-3
-unfolding turnSays _giving_ storedAfter
+unfolding turnSays _giving_ storedAfterOf
 returns-3 c book store stands h top room =
     takes _ h _ (c .before .before .before .before .before .before .before .before .pre .1 .1 .1 .1) _ _ _ (stepped (c .before .before .before .before) book store stands top room ∙ rw (c .before .before .turn3 .given .1)) refl
 
 returns-4 : tie.Need-returns-4
-unfolding turnSays _giving_ storedAfter refusalSays
+unfolding turnSays _giving_ storedAfterOf refusalSays
 returns-4 c book store stands h top room =
     refuses _ h _ (c .before .before .before .before .before .before .before .before .pre .1 .1 .1 .1) _ _ _ (stepped (c .before .before .before .before) book store stands top room ∙ rw (c .before .before .turn4 .given .1)) (set-out store _ _ (omega arith))
 
