@@ -1,8 +1,8 @@
 // The making of skip books, a part of opening: it finds the states in which a tree can end and then Reach in rounds in its own
 // room, and writes the book last.
-mod moves;
-mod rounds;
-mod sets;
+pub mod moves;
+pub mod rounds;
+pub mod sets;
 mod words;
 
 use meaning::Refusal;

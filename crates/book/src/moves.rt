@@ -66,7 +66,7 @@ pub fn letter_moves(file: &[u8], rule: Rule) -> [u64; 64]
 }
 
 // The states that the lower states of a set lead to from an upper state.
-fn by_trees(file: &[u8], rule: Rule, upper: u8, lowers: u64) -> u64
+pub fn by_trees(file: &[u8], rule: Rule, upper: u8, lowers: u64) -> u64
     requires { ⌜ RuleOf (now file) rule ⌝ }
     requires { ⌜ upper < rule .states ⌝ }
     requires { ⌜ StatesOf (rule .states) lowers ⌝ }

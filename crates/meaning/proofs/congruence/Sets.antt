@@ -120,6 +120,10 @@ tree-in {R} above lowers {p} member =
 
 -- ---- what can be reached
 
+pub reachable-low : (R : Rule) (set p : ℕ) → bit (reachable R set) p ≡ true → p < R .states
+unfolding reachable
+reachable-low R set p isIn = where-low R _ p isIn
+
 module _ {R : Rule} (rule : IsRule R) where
   pub in-reachable : {set q p : ℕ} → Member R set q → Reach R q p → Member R (reachable R set) p
   unfolding reachable
