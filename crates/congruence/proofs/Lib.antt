@@ -1,2 +1,3 @@
 -- What the proofs of the functions go by.
 pub mod SetWords
+pub mod PairWords
