@@ -7,10 +7,20 @@ use Prim.Native.Nat.{ℕ, _+_, _-_, _^_, _≤_, _<_}
 use native.Mathlib.Numerals.{add-one}
 use native.Mathlib.Omega.{arith}
 use lib.Bits.{bitAnd}
+use lib.Count.{trailingZeros}
+use lib.ListN.{getD}
+use borrow.Author.Tests.{ltb-true, ltb-false}
+use Rattle.meaning.specs.Answers.{_<?_}
+use Rattle.meaning.specs.StateSets.{someIn}
 use Rattle.meaning.specs.RuleFile.{Rule, Move, IsRule, to, letterMove, treeMove, ruleOf}
 use Rattle.meaning.specs.SkipBook.{anyBelow, bit}
-use Rattle.meaning.specs.Differences.{pair, bothLead}
-use Rattle.meaning.proofs.laws.Truths.{both-false}
+use Rattle.meaning.specs.Differences.{pair, bothLead, apart}
+use Rattle.meaning.proofs.laws.Truths.{truth, true-is-not-false, not-true-false, and-false-right, or-true-left, both-false}
+use Rattle.meaning.proofs.laws.Answered.{and-true, both-true}
+use Rattle.meaning.proofs.laws.Bools.{any-below-fails, no-below-any, any-below-same}
+use Rattle.meaning.proofs.skipbook.Bits.{bit-and, bit-zero, bit-past, same-bits, cleared-less}
+use Rattle.book.specs.Sets.{StatesOf}
+use Rattle.book.proofs.Standing.{lowest-first, rest-states, members-below}
 use Rattle.meaning.proofs.rulefile.Accepted.{accepted-is-rule}
 use Rattle.meaning.proofs.skipbook.Reaching.{letter-below, tree-below}
 use Rattle.rule.specs.declared.Rule as numbers
@@ -22,6 +32,12 @@ use Rattle.rule.specs.declared.tables.Table as table
 use Rattle.rule.specs.Tables.{letterByte, treeByte, moveSays, moveIn}
 use Rattle.book.proofs.Walked.{states-are, letter-is, tree-is}
 use Rattle.congruence.specs.Rows.{LeadsLow}
+
+and-turned : (a b : Bool) → (a && b) ≡ (b && a)
+and-turned true true = refl
+and-turned true false = refl
+and-turned false true = refl
+and-turned false false = refl
 
 -- no number below the next one passes
 pub none-next : (i : ℕ) (f : ℕ → Bool) → anyBelow i f ≡ false → f i ≡ false → anyBelow (i + 1) f ≡ false
@@ -62,3 +78,69 @@ module _ {file : List ℕ} {rule : numbers.Rule} (ok : RuleOf file rule) (few : 
   unfolding LeadsLow
   tree-low u q read hu hq x leads =
       omega (arith, tree-below (accepted-is-rule file (ok .accepted)) u q (sym (tree-is ok u q read hu hq) ∙ leads), states-are ok)
+
+-- ---- a row and a set that meet
+
+-- some member of the set is in the row
+abbrev pub meets : ℕ → ℕ → Bool
+meets set row = anyBelow 64 (λ y. bit set y && bit row y)
+
+module _ (set row : ℕ) (small : set < 2 ^ 64) where
+  pub meet-none : bitAnd row set ≡ 0 → meets set row ≡ false
+  meet-none e =
+      any-below-fails 64 _ (λ y h. not-true-false _ (λ t. let b = and-true (bit set y) (bit row y) t in
+      let both : bit (bitAnd row set) y ≡ true = bit-and row set y ∙ both-true (b .1) (b .0) in
+      true-is-not-false (ap (λ (w : ℕ). bit w y) (sym e) ∙ both) (bit-zero y)))
+
+  pub meet-some : (bitAnd row set ≡ 0 → ⊥) → meets set row ≡ true
+  meet-some some =
+      ⊎-elim (λ t. t)
+      (λ none. absurd (some (same-bits (bitAnd row set) 0 (λ y. ⊎-elim
+      (λ low. let no = no-below-any 64 (λ y. bit set y && bit row y) none y (ltb-true y 64 low) in
+      bit-and row set y ∙ (and-turned (bit row y) (bit set y) ∙ no) ∙ sym (bit-zero y))
+      (λ high. bit-and row set y ∙ and-false-right (bit row y) (bit-past 64 set y small (ltb-false y 64 high)) ∙ sym (bit-zero y))
+      (truth (y <? 64))))))
+      (truth (meets set row))
+
+-- ---- whether some two members of a set are a pair
+
+-- what some member of the rest meets is what some member of the set meets
+pub record Meeting (relation : List ℕ) (set rest : ℕ) : Type 0 where
+  pub small : rest < 2 ^ 64
+  pub low : StatesOf 16 rest
+  pub same : anyBelow 64 (λ m. bit rest m && meets set (getD relation m 0)) ≡ anyBelow 64 (λ m. bit set m && meets set (getD relation m 0))
+
+pub meeting-first : (relation : List ℕ) (set : ℕ) → set < 2 ^ 64 → StatesOf 16 set → Meeting relation set set
+meeting-first relation set small low = record { small = small; low = low; same = refl }
+
+module _ (relation : List ℕ) (set rest : ℕ) (so : Meeting relation set rest) where
+  abbrev here : ℕ
+  here = trailingZeros 64 rest
+
+  pub meeting-found : 0 < rest → meets set (getD relation here 0) ≡ true
+      → anyBelow 64 (λ m. bit set m && meets set (getD relation m 0)) ≡ true
+  meeting-found pos found =
+      sym (so .same) ∙ (lowest-first rest pos (so .small) (λ m. meets set (getD relation m 0)) ∙ or-true-left _ found)
+
+  pub meeting-next : 0 < rest → meets set (getD relation here 0) ≡ false → Meeting relation set (bitAnd rest (rest - 1))
+  meeting-next pos none =
+      record {
+        small = omega (arith, cleared-less rest pos, so .small);
+        low = rest-states 16 rest (so .low);
+        same = sym (ap (λ (b : Bool). b || anyBelow 64 (λ m. bit (bitAnd rest (rest - 1)) m && meets set (getD relation m 0))) none)
+            ∙ (sym (lowest-first rest pos (so .small) (λ m. meets set (getD relation m 0))) ∙ so .same);
+      }
+
+  pub meeting-none : rest ≡ 0 → anyBelow 64 (λ m. bit set m && meets set (getD relation m 0)) ≡ false
+  meeting-none e =
+      sym (so .same)
+      ∙ any-below-fails 64 _ (λ m h. ap (λ (w : ℕ). bit w m && meets set (getD relation m 0)) e
+      ∙ ap (λ (b : Bool). b && meets set (getD relation m 0)) (bit-zero m))
+
+pub apart-is : (R : Rule) (set : ℕ) (relation : List ℕ) → R .states ≤ 16 → StatesOf (R .states) set
+    → anyBelow 64 (λ m. bit set m && meets set (getD relation m 0)) ≡ apart R set relation
+unfolding apart someIn pair
+apart-is R set relation few states =
+    members-below (R .states) set (λ m. meets set (getD relation m 0)) (omega arith) states
+    ∙ any-below-same (R .states) _ _ (λ m h. ap (λ (b : Bool). bit set m && b)
+    (members-below (R .states) set (λ y. bit (getD relation m 0) y) (omega arith) states))

@@ -40,8 +40,7 @@ both-lead-requires : tie.Need-both-lead-requires Inv-loop μ-loop
 both-lead-requires c κs =
     let start = c .before .before .before .before .before .before in
     let loop = c .before .before .before .before .loop in
-    let known = c .before .before .if1 .taken in
-    (
+    let known = c .before .before .if1 .taken in (
       letter-low (start .pre .0) (start .pre .1 .0) (start .args .x) (loop .letter) (c .before .letter-move .ensures) (start .pre .1 .1 .0) known,
       letter-low (start .pre .0) (start .pre .1 .0) (start .args .y) (loop .letter) (c .letter-move2 .ensures) (start .pre .1 .1 .1) known,
     )
@@ -76,8 +75,8 @@ loop-less c = omega arith
 
 loop-again : tie.Need-loop-again Inv-loop μ-loop
 loop-again c =
-    let loop = c .before .before .before .before .before .before .before .loop in
-    (omega arith, none-next (loop .letter) _ (loop .inv .1) (sym (found (c .before .before)) ∙ c .before .if2 .taken))
+    let loop = c .before .before .before .before .before .before .loop in
+    (omega arith, none-next (loop .letter) _ (loop .inv .1) (sym (found (c .before)) ∙ c .if2 .left))
 
 returns-2 : tie.Need-returns-2 Inv-loop μ-loop
 returns-2 c =

@@ -32,8 +32,7 @@ loop-less c =
 
 loop-again : tie.Need-loop-again Inv-loop μ-loop
 loop-again c =
-    let loop = c .before .before .loop in
-    (
+    let loop = c .before .before .loop in (
       reaching-next _ _ (loop .all) (loop .next) (loop .inv .0) (loop .inv .1) (loop .inv .2),
       c .with-members2 .ok,
       c .with-members2 .ensures,

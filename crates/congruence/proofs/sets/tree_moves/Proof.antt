@@ -54,8 +54,7 @@ loop-less c = cleared-less (c .before .before .loop .rest) (omega arith)
 
 loop-again : tie.Need-loop-again Inv-loop μ-loop
 loop-again c =
-    let loop = c .before .before .loop in
-    (
+    let loop = c .before .before .loop in (
       turn-next _ _ _ (loop .rest) _ (omega arith) (c .by-trees .ensures) (loop .inv .0),
       rest-states _ _ (loop .inv .1),
       or-lt 64 (loop .all) (c .by-trees .result) (loop .inv .2) (c .by-trees .ok),
