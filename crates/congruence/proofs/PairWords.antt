@@ -13,9 +13,9 @@ use borrow.Author.Tests.{ltb-true, ltb-false}
 use Rattle.meaning.specs.Answers.{_<?_}
 use Rattle.meaning.specs.StateSets.{someIn}
 use Rattle.meaning.specs.RuleFile.{Rule, Move, IsRule, to, letterMove, treeMove, ruleOf}
-use Rattle.meaning.specs.SkipBook.{anyBelow, bit}
-use Rattle.meaning.specs.Differences.{pair, bothLead, apart}
-use Rattle.meaning.proofs.laws.Truths.{truth, true-is-not-false, not-true-false, and-false-right, or-true-left, both-false}
+use Rattle.meaning.specs.SkipBook.{anyBelow, endMarks, bit}
+use Rattle.meaning.specs.Differences.{pair, bothLead, ledApart, ledApartAbove, apart}
+use Rattle.meaning.proofs.laws.Truths.{truth, true-is-not-false, not-true-false, and-false-right, or-true-left, or-true-right, both-false}
 use Rattle.meaning.proofs.laws.Answered.{and-true, both-true}
 use Rattle.meaning.proofs.laws.Bools.{any-below-fails, no-below-any, any-below-same}
 use Rattle.meaning.proofs.skipbook.Bits.{bit-and, bit-zero, bit-past, same-bits, cleared-less}
@@ -30,8 +30,8 @@ use Rattle.rule.specs.declared.tables.Move as tables
 use Rattle.rule.specs.declared.tables.Move.the-variants as found
 use Rattle.rule.specs.declared.tables.Table as table
 use Rattle.rule.specs.Tables.{letterByte, treeByte, moveSays, moveIn}
-use Rattle.book.proofs.Walked.{states-are, letter-is, tree-is}
-use Rattle.congruence.specs.Rows.{LeadsLow}
+use Rattle.book.proofs.Walked.{states-are, letters-are, letter-is, tree-is}
+use Rattle.congruence.specs.Rows.{LeadsLow, EndsAre, goesIn}
 
 and-turned : (a b : Bool) → (a && b) ≡ (b && a)
 and-turned true true = refl
@@ -144,3 +144,56 @@ apart-is R set relation few states =
     members-below (R .states) set (λ m. meets set (getD relation m 0)) (omega arith) states
     ∙ any-below-same (R .states) _ _ (λ m h. ap (λ (b : Bool). bit set m && b)
     (members-below (R .states) set (λ y. bit (getD relation m 0) y) (omega arith) states))
+
+-- ---- what a round has
+
+-- letters and trees of an accepted file, with a word for the lower states, are what leads apart
+pub led-is : {file : List ℕ} {rule : numbers.Rule} → RuleOf file rule → (lowers : ℕ) (relation : List ℕ) (x y : ℕ)
+    → EndsAre (ruleOf file) lowers
+    → (anyBelow (rule .letters) (λ a. bothLead (pair relation) (letterMove (ruleOf file) x a) (letterMove (ruleOf file) y a))
+    || anyBelow (rule .states) (λ l. bit lowers l && bothLead (pair relation) (treeMove (ruleOf file) x l) (treeMove (ruleOf file) y l)))
+    ≡ ledApart (ruleOf file) (endMarks (ruleOf file)) relation x y
+unfolding ledApart EndsAre
+led-is {file} ok lowers relation x y are =
+    ap₂ (λ (a b : Bool). a || b)
+    (ap (λ (k : ℕ). anyBelow k (λ a. bothLead (pair relation) (letterMove (ruleOf file) x a) (letterMove (ruleOf file) y a))) (sym (letters-are ok)))
+    (ap (λ (n : ℕ). anyBelow n (λ l. bit lowers l && bothLead (pair relation) (treeMove (ruleOf file) x l) (treeMove (ruleOf file) y l))) (sym (states-are ok))
+    ∙ any-below-same (ruleOf file .states) _ _ (λ l h. ap (λ (b : Bool). b && bothLead (pair relation) (treeMove (ruleOf file) x l) (treeMove (ruleOf file) y l)) (are l)))
+
+-- where no letter leads apart, the trees tell
+pub led-by-trees : {file : List ℕ} {rule : numbers.Rule} → RuleOf file rule → (lowers : ℕ) (relation : List ℕ) (x y : ℕ)
+    → EndsAre (ruleOf file) lowers
+    → anyBelow (rule .letters) (λ a. bothLead (pair relation) (letterMove (ruleOf file) x a) (letterMove (ruleOf file) y a)) ≡ false
+    → anyBelow (rule .states) (λ l. bit lowers l && bothLead (pair relation) (treeMove (ruleOf file) x l) (treeMove (ruleOf file) y l))
+    ≡ ledApart (ruleOf file) (endMarks (ruleOf file)) relation x y
+led-by-trees {file} {rule} ok lowers relation x y are none =
+    sym (ap (λ (b : Bool). b || anyBelow (rule .states) (λ l. bit lowers l && bothLead (pair relation) (treeMove (ruleOf file) x l) (treeMove (ruleOf file) y l))) none)
+    ∙ led-is ok lowers relation x y are
+
+module _ (R : Rule) (relation : List ℕ) (x y : ℕ) where
+  pub in-pair : pair relation x y ≡ true → goesIn R relation x y ≡ true
+  unfolding goesIn
+  in-pair e = or-true-left _ e
+
+  pub in-mirrored : pair relation y x ≡ true → goesIn R relation x y ≡ true
+  unfolding goesIn
+  in-mirrored e = or-true-right (pair relation x y) (or-true-left _ e)
+
+  pub in-led : ledApart R (endMarks R) relation x y ≡ true → goesIn R relation x y ≡ true
+  unfolding goesIn
+  in-led e = or-true-right (pair relation x y) (or-true-right (pair relation y x) e)
+
+  pub in-only-led : pair relation x y ≡ false → pair relation y x ≡ false → goesIn R relation x y ≡ ledApart R (endMarks R) relation x y
+  unfolding goesIn
+  in-only-led e e′ = rw (e, e′)
+
+-- ---- led apart above
+
+pub above-is : {file : List ℕ} {rule : numbers.Rule} → RuleOf file rule → (set : ℕ) (relation : List ℕ) (x y : ℕ)
+    → anyBelow (rule .states) (λ p. bit set p && anyBelow (rule .states) (λ q. bit set q
+    && bothLead (pair relation) (treeMove (ruleOf file) p x) (treeMove (ruleOf file) q y)))
+    ≡ ledApartAbove (ruleOf file) set relation x y
+unfolding ledApartAbove someIn
+above-is {file} ok set relation x y =
+    ap (λ (n : ℕ). anyBelow n (λ p. bit set p && anyBelow n (λ q. bit set q
+    && bothLead (pair relation) (treeMove (ruleOf file) p x) (treeMove (ruleOf file) q y)))) (sym (states-are ok))

@@ -1,10 +1,30 @@
 -- What the functions on relations are handed.
 use Prim.Native.Nat.{ℕ, _<_}
 use mathlib.Core.Path.{_≡_}
-use Rattle.meaning.specs.RuleFile.{to}
+use mathlib.Core.Bool.{Bool, _||_}
+use mathlib.Core.List.{List}
+use Rattle.meaning.specs.RuleFile.{Rule, to}
+use Rattle.meaning.specs.SkipBook.{marked, endMarks, bit}
+use Rattle.meaning.specs.Differences.{pair, ledApart, acceptsAndRejects, ledApartAbove}
 use Rattle.rule.specs.declared.tables.Move.{Move}
 use Rattle.rule.specs.Tables.{moveSays}
+use Rattle.congruence.specs.declared.relations.Kind.{Kind}
+use Rattle.congruence.specs.declared.relations.Kind.the-variants as kind
 
 -- a move that leads, if it does, to one of the first 16 states
 unfoldable pub LeadsLow : Move → Type 0
 LeadsLow m = (x : ℕ) → moveSays m ≡ to x → x < 16
+
+-- a word that has the states in which a tree can end
+unfoldable pub EndsAre : Rule → ℕ → Type 0
+EndsAre R lowers = (p : ℕ) → bit lowers p ≡ marked (endMarks R) p
+
+-- what a round has: the pairs of a relation, mirrored or not, and those that a letter or a tree takes to one
+unfoldable pub goesIn : Rule → List ℕ → ℕ → ℕ → Bool
+goesIn R relation x y = pair relation x y || (pair relation y x || ledApart R (endMarks R) relation x y)
+
+-- the pairs that a relation of a kind is made of
+unfoldable pub isOf : Kind → Rule → ℕ → List ℕ → ℕ → ℕ → Bool
+isOf kind.Top R set relation x y = acceptsAndRejects R x y
+isOf kind.Lower R set relation x y = ledApartAbove R set relation x y
+isOf kind.Round R set relation x y = goesIn R relation x y

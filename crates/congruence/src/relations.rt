@@ -1,22 +1,18 @@
 // Relations between states: 16 words, bit y of word x for the pair of x and y.
-use book::sets::only;
-use book::sets::with;
 use rule::Rule;
 use rule::tables::Move;
 ghost use mathlib.Core.Path.{_≡_};
-ghost use mathlib.Core.Bool.{Bool, _&&_, _||_};
-ghost use mathlib.Core.List.{List};
-ghost use Prim.Native.Nat.{ℕ, _<_, _≤_, _^_};
-ghost use lib.ListN.{getD};
+ghost use mathlib.Core.Bool.{_&&_};
+ghost use Prim.Native.Nat.{_<_, _≤_};
 ghost use Rattle.meaning.specs.RuleFile as format;
 ghost use Rattle.meaning.specs.RuleFile.{ruleOf, letterMove, treeMove};
-ghost use Rattle.meaning.specs.SkipBook.{anyBelow, marked, bit};
+ghost use Rattle.meaning.specs.SkipBook.{anyBelow, bit};
 ghost use Rattle.meaning.specs.Differences as differences;
-ghost use Rattle.meaning.specs.Differences.{pair, bothLead, ledApart, pairRound};
+ghost use Rattle.meaning.specs.Differences.{pair, bothLead, ledApartAbove};
 ghost use Rattle.rule.specs.Says.{RuleOf};
 ghost use Rattle.rule.specs.Tables.{moveSays};
 ghost use Rattle.book.specs.Sets.{StatesOf};
-ghost use Rattle.congruence.specs.Rows.{LeadsLow};
+ghost use Rattle.congruence.specs.Rows.{LeadsLow, EndsAre, goesIn};
 
 // Whether a state is in the set that a word stands for: its bit.
 fn in_set(word: u64, state: u8) -> bool
@@ -136,13 +132,13 @@ pub fn apart(relation: &[u16; 16], set: u64) -> bool
     false
 }
 
-// Whether a round adds x and y, or has them: they are a pair, mirrored or not, or a letter or a tree takes them to one.
+// Whether a round has x and y: they are a pair, mirrored or not, or a letter or a tree takes them to one.
 fn goes_in(file: &[u8], rule: Rule, lowers: u64, relation: &[u16; 16], x: u8, y: u8) -> bool
     requires { ⌜ RuleOf (now file) rule ⌝ }
     requires { ⌜ rule .states ≤ 16 ⌝ }
     requires { ⌜ x < rule .states ⌝ }
     requires { ⌜ y < rule .states ⌝ }
-    ensures { λ r. ⌜ ((marks : List Bool) → ((p : ℕ) → bit lowers p ≡ marked marks p) → r ≡ (pair (now (relation .entry)) x y || (pair (now (relation .entry)) y x || ledApart (ruleOf (now (file .entry))) marks (now (relation .entry)) x y))) ⌝ }
+    ensures { λ r. ⌜ (EndsAre (ruleOf (now (file .entry))) lowers → r ≡ goesIn (ruleOf (now (file .entry))) (now (relation .entry)) x y) ⌝ }
 {
     if is_pair(relation, x, y) {
         return true;
@@ -156,18 +152,89 @@ fn goes_in(file: &[u8], rule: Rule, lowers: u64, relation: &[u16; 16], x: u8, y:
     trees_apart(file, rule, lowers, relation, x, y)
 }
 
-// A row of the next round.
-fn next_row(file: &[u8], rule: Rule, lowers: u64, relation: &[u16; 16], x: u8) -> u64
+// Whether the states of a set, with q above y, have a tree move that goes with the one of p above x to a pair.
+fn with_upper(
+    file: &[u8],
+    rule: Rule,
+    set: u64,
+    relation: &[u16; 16],
+    p: u8,
+    x: u8,
+    q: u8,
+    y: u8,
+) -> bool
+    requires { ⌜ RuleOf (now file) rule ⌝ }
+    requires { ⌜ rule .states ≤ 16 ⌝ }
+    requires { ⌜ p < rule .states ⌝ }
+    requires { ⌜ x < rule .states ⌝ }
+    requires { ⌜ q < rule .states ⌝ }
+    requires { ⌜ y < rule .states ⌝ }
+    ensures { λ r. ⌜ r ≡ (bit set q && bothLead (pair (now (relation .entry))) (treeMove (ruleOf (now (file .entry))) p x) (treeMove (ruleOf (now (file .entry))) q y)) ⌝ }
+{
+    if !in_set(set, q) {
+        return false;
+    }
+    let one = rule::tables::tree_move(file, rule, p, x);
+    let other = rule::tables::tree_move(file, rule, q, y);
+    both_lead(relation, one, other)
+}
+
+// Whether some state of a set does.
+fn some_upper(file: &[u8], rule: Rule, set: u64, relation: &[u16; 16], p: u8, x: u8, y: u8) -> bool
+    requires { ⌜ RuleOf (now file) rule ⌝ }
+    requires { ⌜ rule .states ≤ 16 ⌝ }
+    requires { ⌜ p < rule .states ⌝ }
+    requires { ⌜ x < rule .states ⌝ }
+    requires { ⌜ y < rule .states ⌝ }
+    ensures { λ r. ⌜ r ≡ anyBelow (rule .states) (λ q. bit set q && bothLead (pair (now (relation .entry))) (treeMove (ruleOf (now (file .entry))) p x) (treeMove (ruleOf (now (file .entry))) q y)) ⌝ }
+{
+    let mut q: u8 = 0;
+    while q < rule.states {
+        if with_upper(file, rule, set, relation, p, x, q, y) {
+            return true;
+        }
+        q += 1;
+    }
+    false
+}
+
+// Whether a state p of a set does with some state of it.
+fn with_uppers(file: &[u8], rule: Rule, set: u64, relation: &[u16; 16], p: u8, x: u8, y: u8) -> bool
+    requires { ⌜ RuleOf (now file) rule ⌝ }
+    requires { ⌜ rule .states ≤ 16 ⌝ }
+    requires { ⌜ p < rule .states ⌝ }
+    requires { ⌜ x < rule .states ⌝ }
+    requires { ⌜ y < rule .states ⌝ }
+    ensures { λ r. ⌜ r ≡ (bit set p && anyBelow (rule .states) (λ q. bit set q && bothLead (pair (now (relation .entry))) (treeMove (ruleOf (now (file .entry))) p x) (treeMove (ruleOf (now (file .entry))) q y))) ⌝ }
+{
+    if !in_set(set, p) {
+        return false;
+    }
+    some_upper(file, rule, set, relation, p, x, y)
+}
+
+// Whether two states of a set have tree moves, the one with x and the other with y, that are a pair of the relation.
+fn above_apart(file: &[u8], rule: Rule, set: u64, relation: &[u16; 16], x: u8, y: u8) -> bool
     requires { ⌜ RuleOf (now file) rule ⌝ }
     requires { ⌜ rule .states ≤ 16 ⌝ }
     requires { ⌜ x < rule .states ⌝ }
-    ensures { λ r. ⌜ ((marks : List Bool) → ((p : ℕ) → bit lowers p ≡ marked marks p) → r ≡ getD (pairRound (ruleOf (now (file .entry))) marks (now (relation .entry))) x 0) ⌝ }
+    requires { ⌜ y < rule .states ⌝ }
+    ensures { λ r. ⌜ r ≡ ledApartAbove (ruleOf (now (file .entry))) set (now (relation .entry)) x y ⌝ }
 {
-    let mut row: u64 = 0;
-    let mut y: u8 = 0;
-    while y < rule.states {
-        row = with(row, only(y), goes_in(file, rule, lowers, relation, x, y));
-        y += 1;
+    let mut p: u8 = 0;
+    while p < rule.states {
+        if with_uppers(file, rule, set, relation, p, x, y) {
+            return true;
+        }
+        p += 1;
     }
-    row
+    false
+}
+
+// Which pairs a relation is made of: those of a state of class 2 and one of class 1; those that two states of a set lead to a pair; or
+// what a round has.
+pub enum Kind {
+    Top,
+    Lower,
+    Round,
 }

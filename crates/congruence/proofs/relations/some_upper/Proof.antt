@@ -1,0 +1,71 @@
+-- `congruence::relations::some_upper` meets its contract. The loop's invariant: no state of the set so far goes with the other one to a pair.
+-- Assumes nothing.
+use borrow.Author.Needs.{needs}
+use mathlib.Core.Path.{_≡_, refl, sym, _∙_}
+use mathlib.Core.Bool.{Bool, false, _&&_}
+use mathlib.Core.List.{List}
+use Prim.Native.Nat.{ℕ, _≤_, _-_}
+use native.Mathlib.Omega.{arith}
+use Rattle.meaning.specs.RuleFile.{treeMove, ruleOf}
+use Rattle.meaning.specs.SkipBook.{anyBelow, bit}
+use Rattle.meaning.specs.Differences.{pair, bothLead}
+use Rattle.meaning.proofs.laws.Bools.{below-any}
+use Rattle.congruence.proofs.PairWords.{none-next}
+use Rattle.congruence.proofs.relations.some_upper.Statement.{statement}
+use Rattle.congruence.proofs.relations.some_upper.Tie as tie
+
+-- whether a state of the set goes with the other one to a pair
+abbrev leads : List ℕ → ℕ → List ℕ → ℕ → ℕ → ℕ → ℕ → Bool
+leads file set relation p x y q = bit set q && bothLead (pair relation) (treeMove (ruleOf file) p x) (treeMove (ruleOf file) q y)
+
+abbrev Inv-loop : tie.InvT-loop
+Inv-loop file rule set relation p x y q₀ q = (q ≤ rule .states) × (anyBelow q (leads file set relation p x y) ≡ false)
+
+abbrev μ-loop : tie.MeasureT-loop
+μ-loop file rule set relation p x y q₀ q = rule .states - q
+
+loop-holds : tie.Need-loop-holds Inv-loop μ-loop
+unfolding anyBelow
+loop-holds c = (omega arith, refl)
+
+with-upper-requires : tie.Need-with-upper-requires Inv-loop μ-loop
+with-upper-requires c κs =
+    let pre = c .before .before .before .before .pre in
+    (pre .0, (pre .1 .0, (pre .1 .1 .0, (pre .1 .1 .1 .0, (c .if1 .taken, pre .1 .1 .1 .1)))))
+
+returns : tie.Need-returns Inv-loop μ-loop
+returns c =
+    let loop = c .before .before .before .before .loop in
+    sym (below-any _ _ (loop .q) (c .before .before .if1 .taken) (sym (c .before .with-upper .ensures) ∙ c .if2 .taken))
+
+add-q : tie.Need-add-q Inv-loop μ-loop
+add-q c = omega arith
+
+loop-less : tie.Need-loop-less Inv-loop μ-loop
+loop-less c = omega arith
+
+loop-again : tie.Need-loop-again Inv-loop μ-loop
+loop-again c =
+    let loop = c .before .before .before .before .loop in
+    (omega arith, none-next (loop .q) _ (loop .inv .1) (sym (c .before .with-upper .ensures) ∙ c .if2 .left))
+
+returns-2 : tie.Need-returns-2 Inv-loop μ-loop
+returns-2 c =
+    let start = c .before .before .before .before in
+    let loop = c .before .before .loop in
+    let last : loop .q ≡ start .args .rule .states = omega arith in
+    sym (rw last at (loop .inv .1))
+
+pub some-upper-spec : {M : Type 1} → statement M
+some-upper-spec =
+    tie.close
+    (tie.spec
+    Inv-loop
+    μ-loop
+    loop-holds
+    with-upper-requires
+    returns
+    add-q
+    loop-less
+    loop-again
+    returns-2)
