@@ -3,24 +3,27 @@ use mathlib.Core.Path.{_≡_, refl, sym, ap, ap₂, _∙_}
 use mathlib.Core.Logic.{⊎-elim}
 use mathlib.Core.Bool.{Bool, true, false, _&&_, _||_}
 use mathlib.Core.List.{List}
-use Prim.Native.Nat.{ℕ, _+_, _-_, _^_, _≤_, _<_}
+use Prim.Native.Nat.{ℕ, _+_, _-_, _^_, _%_, _≤_, _<_}
 use native.Mathlib.Numerals.{add-one}
+use native.Mathlib.Nat.{lt-of-lt-of-le, mod-eq-of-lt}
 use native.Mathlib.Omega.{arith}
+use lib.Pow.{pow-mono}
 use lib.Bits.{bitAnd}
 use lib.Count.{trailingZeros}
-use lib.ListN.{getD}
+use lib.ListN.{length, getD}
 use borrow.Author.Tests.{ltb-true, ltb-false}
 use Rattle.meaning.specs.Answers.{_<?_}
-use Rattle.meaning.specs.StateSets.{someIn}
-use Rattle.meaning.specs.RuleFile.{Rule, Move, IsRule, to, letterMove, treeMove, ruleOf}
-use Rattle.meaning.specs.SkipBook.{anyBelow, endMarks, bit}
+use Rattle.meaning.specs.StateSets.{statesWhere, someIn}
+use Rattle.meaning.specs.RuleFile.{Rule, Move, IsRule, to, letterMove, treeMove, classOf, ruleOf}
+use Rattle.meaning.specs.SkipBook.{anyBelow, listed, marked, endMarks, wordOf, bit}
 use Rattle.meaning.specs.Differences.{pair, bothLead, ledApart, ledApartAbove, apart}
-use Rattle.meaning.proofs.laws.Truths.{truth, true-is-not-false, not-true-false, and-false-right, or-true-left, or-true-right, both-false}
+use Rattle.meaning.proofs.laws.Truths.{truth, same-truth, true-is-not-false, not-true-false, and-false-right, or-true-left, or-true-right, both-false}
 use Rattle.meaning.proofs.laws.Answered.{and-true, both-true}
-use Rattle.meaning.proofs.laws.Bools.{any-below-fails, no-below-any, any-below-same}
-use Rattle.meaning.proofs.skipbook.Bits.{bit-and, bit-zero, bit-past, same-bits, cleared-less}
-use Rattle.book.specs.Sets.{StatesOf}
-use Rattle.book.proofs.Standing.{lowest-first, rest-states, members-below}
+use Rattle.meaning.proofs.laws.Bools.{listed-length, any-below-fails, no-below-any, any-below-same}
+use Rattle.meaning.proofs.skipbook.Bits.{word-below, bit-and, bit-zero, bit-past, same-bits, cleared-less}
+use Rattle.meaning.proofs.skipbook.Marks.{marked-below, marked-true}
+use Rattle.book.specs.Sets.{StatesOf, StandsFor, firstOf}
+use Rattle.book.proofs.Standing.{lowest-first, rest-states, members-below, stands-as, stands-word, first-true, first-in}
 use Rattle.meaning.proofs.rulefile.Accepted.{accepted-is-rule}
 use Rattle.meaning.proofs.skipbook.Reaching.{letter-below, tree-below}
 use Rattle.rule.specs.declared.Rule as numbers
@@ -29,7 +32,8 @@ use Rattle.rule.specs.declared.tables.Table.the-variants.{LetterMoves, TreeMove
 use Rattle.rule.specs.declared.tables.Move as tables
 use Rattle.rule.specs.declared.tables.Move.the-variants as found
 use Rattle.rule.specs.declared.tables.Table as table
-use Rattle.rule.specs.Tables.{letterByte, treeByte, moveSays, moveIn}
+use Rattle.rule.specs.Tables.{letterByte, treeByte, classByte, moveSays, moveIn}
+use Rattle.rule.proofs.Looks.{class-look}
 use Rattle.book.proofs.Walked.{states-are, letters-are, letter-is, tree-is}
 use Rattle.congruence.specs.Rows.{LeadsLow, EndsAre, goesIn}
 
@@ -197,3 +201,29 @@ unfolding ledApartAbove someIn
 above-is {file} ok set relation x y =
     ap (λ (n : ℕ). anyBelow n (λ p. bit set p && anyBelow n (λ q. bit set q
     && bothLead (pair relation) (treeMove (ruleOf file) p x) (treeMove (ruleOf file) q y)))) (sym (states-are ok))
+
+-- ---- classes
+
+pub class-is : {file : List ℕ} {rule : numbers.Rule} → RuleOf file rule → (q : ℕ) → q < rule .states
+    → classByte file (rule .states) (rule .letters) q ≡ classOf (ruleOf file) q
+class-is ok q low =
+    rw (← states-are ok, ← letters-are ok) (class-look _ (ok .accepted) q (omega (arith, states-are ok)))
+
+-- ---- a row
+
+-- the states so far that pass a test, gathered in a word, are all of them at the last state
+pub row-word : {R : Rule} → IsRule R → (w n : ℕ) (test : ℕ → Bool) → R .states ≡ n → n ≤ 16 → w < 2 ^ 64 → StandsFor w (firstOf n test)
+    → w % 65536 ≡ statesWhere R test
+unfolding statesWhere
+row-word {R} rule w n test same few small stands =
+    let is : w ≡ wordOf (listed (R .states) test) =
+    stands-word w (listed (R .states) test) small (omega (arith, listed-length (R .states) test))
+    (stands-as w (firstOf n test) (marked (listed (R .states) test)) (λ p h. same-truth (firstOf n test p) (marked (listed (R .states) test) p)
+    (λ t. let b = first-true n test p t in marked-below (R .states) test p (omega (arith, b .0)) ∙ b .1)
+    (λ m. let b = marked-true (R .states) test p m in first-in n test p (omega (arith, b .0)) (b .1))) stands) in
+    let below : wordOf (listed (R .states) test) < 2 ^ length (listed (R .states) test) = word-below (listed (R .states) test) in
+    let short : length (listed (R .states) test) ≤ 16 = omega (arith, listed-length (R .states) test) in
+    let more : 2 ^ length (listed (R .states) test) ≤ 2 ^ 16 = pow-mono short in
+    let low : wordOf (listed (R .states) test) < 65536 =
+    lt-of-lt-of-le below more in
+    mod-eq-of-lt (omega (arith, is, low)) ∙ is

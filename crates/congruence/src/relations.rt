@@ -1,18 +1,21 @@
 // Relations between states: 16 words, bit y of word x for the pair of x and y.
+use book::sets::only;
+use book::sets::with;
 use rule::Rule;
 use rule::tables::Move;
 ghost use mathlib.Core.Path.{_≡_};
 ghost use mathlib.Core.Bool.{_&&_};
-ghost use Prim.Native.Nat.{_<_, _≤_};
+ghost use Prim.Native.Nat.{_<_, _≤_, _%_};
 ghost use Rattle.meaning.specs.RuleFile as format;
 ghost use Rattle.meaning.specs.RuleFile.{ruleOf, letterMove, treeMove};
 ghost use Rattle.meaning.specs.SkipBook.{anyBelow, bit};
 ghost use Rattle.meaning.specs.Differences as differences;
-ghost use Rattle.meaning.specs.Differences.{pair, bothLead, ledApartAbove};
+ghost use Rattle.meaning.specs.Differences.{pair, bothLead, acceptsAndRejects, ledApartAbove};
+ghost use Rattle.meaning.specs.StateSets.{statesWhere};
 ghost use Rattle.rule.specs.Says.{RuleOf};
 ghost use Rattle.rule.specs.Tables.{moveSays};
 ghost use Rattle.book.specs.Sets.{StatesOf};
-ghost use Rattle.congruence.specs.Rows.{LeadsLow, EndsAre, goesIn};
+ghost use Rattle.congruence.specs.Rows.{LeadsLow, EndsAre, goesIn, isOf};
 
 // Whether a state is in the set that a word stands for: its bit.
 fn in_set(word: u64, state: u8) -> bool
@@ -237,4 +240,77 @@ pub enum Kind {
     Top,
     Lower,
     Round,
+}
+
+// Whether one state is of class 2 and the other of class 1.
+fn accepts_and_rejects(file: &[u8], rule: Rule, x: u8, y: u8) -> bool
+    requires { ⌜ RuleOf (now file) rule ⌝ }
+    requires { ⌜ x < rule .states ⌝ }
+    requires { ⌜ y < rule .states ⌝ }
+    ensures { λ r. ⌜ r ≡ acceptsAndRejects (ruleOf (now (file .entry))) x y ⌝ }
+{
+    if rule::tables::class_at(file, rule, x) != 2 {
+        return false;
+    }
+    rule::tables::class_at(file, rule, y) == 1
+}
+
+// Whether x and y are among the pairs that a relation of a kind is made of.
+fn is_of(
+    kind: Kind,
+    file: &[u8],
+    rule: Rule,
+    lowers: u64,
+    set: u64,
+    relation: &[u16; 16],
+    x: u8,
+    y: u8,
+) -> bool
+    requires { ⌜ RuleOf (now file) rule ⌝ }
+    requires { ⌜ rule .states ≤ 16 ⌝ }
+    requires { ⌜ x < rule .states ⌝ }
+    requires { ⌜ y < rule .states ⌝ }
+    ensures { λ r. ⌜ (EndsAre (ruleOf (now (file .entry))) lowers → r ≡ isOf kind (ruleOf (now (file .entry))) set (now (relation .entry)) x y) ⌝ }
+{
+    match kind {
+        Kind::Top => accepts_and_rejects(file, rule, x, y),
+        Kind::Lower => above_apart(file, rule, set, relation, x, y),
+        Kind::Round => goes_in(file, rule, lowers, relation, x, y),
+    }
+}
+
+// The lower 16 bits of a word.
+fn narrow(word: u64) -> u16
+    ensures { λ r. ⌜ r ≡ word % 65536 ⌝ }
+{
+    (word % 65536) as u16
+}
+
+// A row of such a relation.
+fn row_of(
+    kind: Kind,
+    file: &[u8],
+    rule: Rule,
+    lowers: u64,
+    set: u64,
+    relation: &[u16; 16],
+    x: u8,
+) -> u16
+    requires { ⌜ RuleOf (now file) rule ⌝ }
+    requires { ⌜ rule .states ≤ 16 ⌝ }
+    requires { ⌜ EndsAre (ruleOf (now file)) lowers ⌝ }
+    requires { ⌜ x < rule .states ⌝ }
+    ensures { λ r. ⌜ r ≡ statesWhere (ruleOf (now (file .entry))) (isOf kind (ruleOf (now (file .entry))) set (now (relation .entry)) x) ⌝ }
+{
+    let mut row: u64 = 0;
+    let mut y: u8 = 0;
+    while y < rule.states {
+        row = with(
+            row,
+            only(y),
+            is_of(kind, file, rule, lowers, set, relation, x, y),
+        );
+        y += 1;
+    }
+    narrow(row)
 }
