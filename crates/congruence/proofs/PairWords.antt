@@ -1,26 +1,27 @@
 -- Pairs of a relation, looked up: what the moves of an accepted file lead to are low states, and what no number so far passes.
-use mathlib.Core.Path.{_≡_, refl, sym, ap, ap₂, _∙_}
+use mathlib.Core.Path.{_≡_, refl, sym, ap, ap₂, _∙_, fun-ext}
 use mathlib.Core.Logic.{⊎-elim}
 use mathlib.Core.Bool.{Bool, true, false, _&&_, _||_}
 use mathlib.Core.List.{List}
-use Prim.Native.Nat.{ℕ, _+_, _-_, _^_, _%_, _≤_, _<_}
+use Prim.Native.Nat.{ℕ, zero, suc, _+_, _-_, _^_, _%_, _≤_, _<_}
 use native.Mathlib.Numerals.{add-one}
-use native.Mathlib.Nat.{lt-of-lt-of-le, mod-eq-of-lt}
+use native.Mathlib.Nat.{lt-of-lt-of-le, mod-eq-of-lt, not-suc-le-zero, zero-add, suc-add}
 use native.Mathlib.Omega.{arith}
 use lib.Pow.{pow-mono}
 use lib.Bits.{bitAnd}
 use lib.Count.{trailingZeros}
-use lib.ListN.{length, getD}
+use lib.ListN.{length, getD, set, replicate, length-set, getD-replicate, List·getD-eq-default}
+use lib.Seq.{getD-set-same, getD-set-other, ext-getD}
 use borrow.Author.Tests.{ltb-true, ltb-false}
 use Rattle.meaning.specs.Answers.{_<?_}
 use Rattle.meaning.specs.StateSets.{statesWhere, someIn}
 use Rattle.meaning.specs.RuleFile.{Rule, Move, IsRule, to, letterMove, treeMove, classOf, ruleOf}
 use Rattle.meaning.specs.SkipBook.{anyBelow, listed, marked, endMarks, wordOf, bit}
-use Rattle.meaning.specs.Differences.{pair, bothLead, ledApart, ledApartAbove, apart}
+use Rattle.meaning.specs.Differences.{pair, bothLead, ledApart, ledApartAbove, apart, pairsWhere, pairRound, pairsIn, leastRelation}
 use Rattle.meaning.proofs.laws.Truths.{truth, same-truth, true-is-not-false, not-true-false, and-false-right, or-true-left, or-true-right, both-false}
 use Rattle.meaning.proofs.laws.Answered.{and-true, both-true}
-use Rattle.meaning.proofs.laws.Bools.{listed-length, any-below-fails, no-below-any, any-below-same}
-use Rattle.meaning.proofs.skipbook.Bits.{word-below, bit-and, bit-zero, bit-past, same-bits, cleared-less}
+use Rattle.meaning.proofs.laws.Bools.{last-or-below, listed-at, listed-length, any-below-fails, no-below-any, any-below-same}
+use Rattle.meaning.proofs.skipbook.Bits.{word-below, bit-word, bit-and, bit-zero, bit-past, same-bits, cleared-less}
 use Rattle.meaning.proofs.skipbook.Marks.{marked-below, marked-true}
 use Rattle.book.specs.Sets.{StatesOf, StandsFor, firstOf}
 use Rattle.book.proofs.Standing.{lowest-first, rest-states, members-below, stands-as, stands-word, first-true, first-in}
@@ -34,14 +35,28 @@ use Rattle.rule.specs.declared.tables.Move.the-variants as found
 use Rattle.rule.specs.declared.tables.Table as table
 use Rattle.rule.specs.Tables.{letterByte, treeByte, classByte, moveSays, moveIn}
 use Rattle.rule.proofs.Looks.{class-look}
-use Rattle.book.proofs.Walked.{states-are, letters-are, letter-is, tree-is}
-use Rattle.congruence.specs.Rows.{LeadsLow, EndsAre, goesIn}
+use Rattle.book.proofs.Walked.{states-are, letters-are, few-states, letter-is, tree-is}
+use Rattle.congruence.specs.declared.relations.Kind.the-variants as kind
+use Rattle.congruence.specs.Rows.{LeadsLow, EndsAre, SameRows, goesIn, isOf}
 
 and-turned : (a b : Bool) → (a && b) ≡ (b && a)
 and-turned true true = refl
 and-turned true false = refl
 and-turned false true = refl
 and-turned false false = refl
+
+-- sixteen zeros, and nothing past them
+abbrev noRows : List ℕ
+noRows = replicate 16 0
+
+no-rows-long : length noRows ≡ 16
+no-rows-long = refl
+
+zeros-at : (x : ℕ) → _≡_ {A = ℕ} (getD noRows x 0) 0
+zeros-at x =
+    ⊎-elim (λ l. getD-replicate {A = ℕ} 16 x 0 0 (ltb-true x 16 l))
+    (λ f. let past : length noRows ≤ x = omega (arith, no-rows-long, ltb-false x 16 f) in List·getD-eq-default noRows 0 past)
+    (truth (x <? 16))
 
 -- no number below the next one passes
 pub none-next : (i : ℕ) (f : ℕ → Bool) → anyBelow i f ≡ false → f i ≡ false → anyBelow (i + 1) f ≡ false
@@ -107,39 +122,6 @@ module _ (set row : ℕ) (small : set < 2 ^ 64) where
       (truth (meets set row))
 
 -- ---- whether some two members of a set are a pair
-
--- what some member of the rest meets is what some member of the set meets
-pub record Meeting (relation : List ℕ) (set rest : ℕ) : Type 0 where
-  pub small : rest < 2 ^ 64
-  pub low : StatesOf 16 rest
-  pub same : anyBelow 64 (λ m. bit rest m && meets set (getD relation m 0)) ≡ anyBelow 64 (λ m. bit set m && meets set (getD relation m 0))
-
-pub meeting-first : (relation : List ℕ) (set : ℕ) → set < 2 ^ 64 → StatesOf 16 set → Meeting relation set set
-meeting-first relation set small low = record { small = small; low = low; same = refl }
-
-module _ (relation : List ℕ) (set rest : ℕ) (so : Meeting relation set rest) where
-  abbrev here : ℕ
-  here = trailingZeros 64 rest
-
-  pub meeting-found : 0 < rest → meets set (getD relation here 0) ≡ true
-      → anyBelow 64 (λ m. bit set m && meets set (getD relation m 0)) ≡ true
-  meeting-found pos found =
-      sym (so .same) ∙ (lowest-first rest pos (so .small) (λ m. meets set (getD relation m 0)) ∙ or-true-left _ found)
-
-  pub meeting-next : 0 < rest → meets set (getD relation here 0) ≡ false → Meeting relation set (bitAnd rest (rest - 1))
-  meeting-next pos none =
-      record {
-        small = omega (arith, cleared-less rest pos, so .small);
-        low = rest-states 16 rest (so .low);
-        same = sym (ap (λ (b : Bool). b || anyBelow 64 (λ m. bit (bitAnd rest (rest - 1)) m && meets set (getD relation m 0))) none)
-            ∙ (sym (lowest-first rest pos (so .small) (λ m. meets set (getD relation m 0))) ∙ so .same);
-      }
-
-  pub meeting-none : rest ≡ 0 → anyBelow 64 (λ m. bit set m && meets set (getD relation m 0)) ≡ false
-  meeting-none e =
-      sym (so .same)
-      ∙ any-below-fails 64 _ (λ m h. ap (λ (w : ℕ). bit w m && meets set (getD relation m 0)) e
-      ∙ ap (λ (b : Bool). b && meets set (getD relation m 0)) (bit-zero m))
 
 pub apart-is : (R : Rule) (set : ℕ) (relation : List ℕ) → R .states ≤ 16 → StatesOf (R .states) set
     → anyBelow 64 (λ m. bit set m && meets set (getD relation m 0)) ≡ apart R set relation
@@ -227,3 +209,151 @@ row-word {R} rule w n test same few small stands =
     let low : wordOf (listed (R .states) test) < 65536 =
     lt-of-lt-of-le below more in
     mod-eq-of-lt (omega (arith, is, low)) ∙ is
+
+-- ---- a table of rows
+
+-- the first i rows are those of a test, and the others are empty
+pub record Rows (R : Rule) (test : ℕ → ℕ → Bool) (i : ℕ) (rows : List ℕ) : Type 0 where
+  pub long : length rows ≡ 16
+  pub done : (x : ℕ) → x < i → getD rows x 0 ≡ statesWhere R (test x)
+  pub empty : (x : ℕ) → i ≤ x → getD rows x 0 ≡ 0
+
+pub rows-first : (R : Rule) (test : ℕ → ℕ → Bool) (rows : List ℕ) → rows ≡ replicate 16 0 → Rows R test 0 rows
+rows-first R test rows e =
+    rw e
+    (record {
+      long = no-rows-long;
+      done = λ x h. absurd (not-suc-le-zero h);
+      empty = λ x h. zeros-at x;
+    })
+
+pub rows-next : (R : Rule) (test : ℕ → ℕ → Bool) (i : ℕ) (rows : List ℕ) (row : ℕ) → i < 16 → row ≡ statesWhere R (test i)
+    → Rows R test i rows → Rows R test (i + 1) (set rows i row)
+rows-next R test i rows row low is so =
+    record {
+      long = length-set rows i row ∙ so .long;
+      done = λ x h. ⊎-elim
+          (λ e. ap (λ (k : ℕ). getD (set rows i row) k 0) e
+          ∙ (getD-set-same rows i row 0 (omega (arith, so .long)) ∙ is ∙ ap (λ (k : ℕ). statesWhere R (test k)) (sym e)))
+          (λ l. getD-set-other rows i x row 0 (λ e. omega arith) ∙ so .done x l)
+          (last-or-below (rw add-one at h));
+      empty = λ x h. getD-set-other rows i x row 0 (λ e. omega arith) ∙ so .empty x (omega arith);
+    }
+
+-- no state passes: the set is empty
+none-where : (R : Rule) (test : ℕ → Bool) → ((p : ℕ) → test p ≡ false) → statesWhere R test ≡ 0
+unfolding statesWhere
+none-where R test none =
+    same-bits (wordOf (listed (R .states) test)) 0
+    (λ p. bit-word (listed (R .states) test) p
+    ∙ (not-true-false _ (λ m. true-is-not-false (marked-true (R .states) test p m .1) (none p)) ∙ sym (bit-zero p)))
+
+pub rows-last : (R : Rule) (test : ℕ → ℕ → Bool) (n : ℕ) (rows : List ℕ) → R .states ≡ n → Rows R test n rows → rows ≡ pairsWhere R test
+unfolding pairsWhere
+rows-last R test n rows same so =
+    ext-getD 0 rows (listed 16 (λ x. statesWhere R (λ y. x <? R .states && test x y)))
+    (so .long ∙ sym (listed-length 16 (λ x. statesWhere R (λ y. x <? R .states && test x y))))
+    (λ x h. ⊎-elim
+    (λ low. let l : x < R .states = ltb-true x (R .states) low in
+    so .done x (omega (arith, l))
+    ∙ ap (statesWhere R) (fun-ext (λ y. sym (ap (λ (b : Bool). b && test x y) low)))
+    ∙ sym (listed-at 16 (λ x. statesWhere R (λ y. x <? R .states && test x y)) x 0 (omega (arith, so .long))))
+    (λ high. let l : R .states ≤ x = ltb-false x (R .states) high in
+    so .empty x (omega (arith, l))
+    ∙ sym (none-where R (λ y. x <? R .states && test x y) (λ y. ap (λ (b : Bool). b && test x y) high))
+    ∙ sym (listed-at 16 (λ x. statesWhere R (λ y. x <? R .states && test x y)) x 0 (omega (arith, so .long))))
+    (truth (x <? R .states)))
+
+-- ---- two relations compared row by row
+
+pub same-next : (one other : List ℕ) (i : ℕ) → ((x : ℕ) → x < i → getD one x 0 ≡ getD other x 0) → getD one i 0 ≡ getD other i 0
+    → (x : ℕ) → x < i + 1 → getD one x 0 ≡ getD other x 0
+same-next one other i before here x h =
+    ⊎-elim (λ e. ap (λ (k : ℕ). getD one k 0) e ∙ (here ∙ ap (λ (k : ℕ). getD other k 0) (sym e))) (λ l. before x l) (last-or-below (rw add-one at h))
+
+-- ---- rounds
+
+pub pairs-are-long : (R : Rule) (test : ℕ → ℕ → Bool) → length (pairsWhere R test) ≡ 16
+unfolding pairsWhere
+pairs-are-long R test = listed-length 16 _
+
+-- what a round has is the next round
+pub round-is : (R : Rule) (set : ℕ) (relation : List ℕ) → pairsWhere R (isOf kind.Round R set relation) ≡ pairRound R (endMarks R) relation
+unfolding isOf goesIn pairRound
+round-is R set relation = refl
+
+-- the relation after so many rounds from a start
+pub Rounded : Rule → List ℕ → ℕ → List ℕ → Type 0
+Rounded R start i relation = (test : ℕ → ℕ → Bool) → start ≡ pairsWhere R test → relation ≡ pairsIn R (endMarks R) test i
+
+pub rounded-first : (R : Rule) (start : List ℕ) → Rounded R start 0 start
+unfolding Rounded pairsIn
+rounded-first R start test e = e
+
+pub rounded-next : (R : Rule) (start relation next : List ℕ) (i : ℕ) → next ≡ pairsWhere R (isOf kind.Round R 0 relation)
+    → Rounded R start i relation → Rounded R start (i + 1) next
+unfolding Rounded pairsIn
+rounded-next R start relation next i is so test e =
+    rw (add-one i) (is ∙ round-is R 0 relation ∙ ap (pairRound R (endMarks R)) (so test e))
+
+-- where a round leaves the relation, so do all that follow
+rounds-stay : (R : Rule) (test : ℕ → ℕ → Bool) (i k : ℕ) → pairRound R (endMarks R) (pairsIn R (endMarks R) test i) ≡ pairsIn R (endMarks R) test i
+    → pairsIn R (endMarks R) test (k + i) ≡ pairsIn R (endMarks R) test i
+unfolding pairsIn
+rounds-stay R test i zero e = ap (pairsIn R (endMarks R) test) (zero-add i)
+rounds-stay R test i (suc k) e =
+    ap (pairsIn R (endMarks R) test) (suc-add k i) ∙ (ap (pairRound R (endMarks R)) (rounds-stay R test i k e) ∙ e)
+
+pub rounded-last : (R : Rule) (start relation next : List ℕ) (i : ℕ) → i ≤ 256 → next ≡ pairsWhere R (isOf kind.Round R 0 relation)
+    → length relation ≡ 16 → SameRows next relation → Rounded R start i relation → Rounded R start 256 relation
+unfolding Rounded SameRows
+rounded-last R start relation next i few is long same so test e =
+    let nextLong : length next ≡ 16 = ap length is ∙ pairs-are-long R (isOf kind.Round R 0 relation) in
+    let alike : next ≡ relation = ext-getD 0 next relation (nextLong ∙ sym long) (λ x h. same x (omega (arith, nextLong))) in
+    let here = so test e in
+    let stays : pairRound R (endMarks R) (pairsIn R (endMarks R) test i) ≡ pairsIn R (endMarks R) test i =
+    ap (pairRound R (endMarks R)) (sym here) ∙ (sym (round-is R 0 relation) ∙ (sym is ∙ (alike ∙ here))) in
+    let at : 256 - i + i ≡ 256 = omega arith in
+    here ∙ (sym (rounds-stay R test i (256 - i) stays) ∙ ap (pairsIn R (endMarks R) test) at)
+
+-- all rounds
+pub rounded-all : (R : Rule) (start relation : List ℕ) → Rounded R start 256 relation → (test : ℕ → ℕ → Bool) → start ≡ pairsWhere R test
+    → relation ≡ leastRelation R test
+unfolding Rounded leastRelation
+rounded-all R start relation so test e = so test e
+
+-- ---- some member of a set
+
+-- some member of the rest passes exactly if some member of the set does
+pub record Seeking (test : ℕ → Bool) (n set rest : ℕ) : Type 0 where
+  pub small : rest < 2 ^ 64
+  pub low : StatesOf n rest
+  pub same : anyBelow 64 (λ m. bit rest m && test m) ≡ anyBelow 64 (λ m. bit set m && test m)
+
+pub seeking-first : (test : ℕ → Bool) (n set : ℕ) → set < 2 ^ 64 → StatesOf n set → Seeking test n set set
+seeking-first test n set small low = record { small = small; low = low; same = refl }
+
+module _ (test : ℕ → Bool) (n set rest : ℕ) (so : Seeking test n set rest) where
+  pub seeking-found : 0 < rest → test (trailingZeros 64 rest) ≡ true → anyBelow 64 (λ m. bit set m && test m) ≡ true
+  seeking-found pos found = sym (so .same) ∙ (lowest-first rest pos (so .small) test ∙ or-true-left _ found)
+
+  pub seeking-next : 0 < rest → test (trailingZeros 64 rest) ≡ false → Seeking test n set (bitAnd rest (rest - 1))
+  seeking-next pos none =
+      record {
+        small = omega (arith, cleared-less rest pos, so .small);
+        low = rest-states n rest (so .low);
+        same = sym (ap (λ (b : Bool). b || anyBelow 64 (λ m. bit (bitAnd rest (rest - 1)) m && test m)) none)
+            ∙ (sym (lowest-first rest pos (so .small) test) ∙ so .same);
+      }
+
+  pub seeking-none : rest ≡ 0 → anyBelow 64 (λ m. bit set m && test m) ≡ false
+  seeking-none e =
+      sym (so .same)
+      ∙ any-below-fails 64 _ (λ m h. ap (λ (w : ℕ). bit w m && test m) e ∙ ap (λ (b : Bool). b && test m) (bit-zero m))
+
+pub some-is : {file : List ℕ} {rule : numbers.Rule} → RuleOf file rule → (set : ℕ) (test : ℕ → Bool) → StatesOf (rule .states) set
+    → anyBelow 64 (λ m. bit set m && test m) ≡ someIn (ruleOf file) set test
+unfolding someIn
+some-is {file} {rule} ok set test states =
+    members-below (rule .states) set test (few-states ok) states
+    ∙ ap (λ (n : ℕ). anyBelow n (λ m. bit set m && test m)) (sym (states-are ok))

@@ -3,6 +3,7 @@ use Prim.Native.Nat.{ℕ, _<_}
 use mathlib.Core.Path.{_≡_}
 use mathlib.Core.Bool.{Bool, _||_}
 use mathlib.Core.List.{List}
+use lib.ListN.{getD}
 use Rattle.meaning.specs.RuleFile.{Rule, to}
 use Rattle.meaning.specs.SkipBook.{marked, endMarks, bit}
 use Rattle.meaning.specs.Differences.{pair, ledApart, acceptsAndRejects, ledApartAbove}
@@ -18,6 +19,10 @@ LeadsLow m = (x : ℕ) → moveSays m ≡ to x → x < 16
 -- a word that has the states in which a tree can end
 unfoldable pub EndsAre : Rule → ℕ → Type 0
 EndsAre R lowers = (p : ℕ) → bit lowers p ≡ marked (endMarks R) p
+
+-- two relations with the same 16 rows
+unfoldable pub SameRows : List ℕ → List ℕ → Type 0
+SameRows one other = (x : ℕ) → x < 16 → getD one x 0 ≡ getD other x 0
 
 -- what a round has: the pairs of a relation, mirrored or not, and those that a letter or a tree takes to one
 unfoldable pub goesIn : Rule → List ℕ → ℕ → ℕ → Bool

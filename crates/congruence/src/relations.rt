@@ -4,18 +4,19 @@ use book::sets::with;
 use rule::Rule;
 use rule::tables::Move;
 ghost use mathlib.Core.Path.{_≡_};
-ghost use mathlib.Core.Bool.{_&&_};
-ghost use Prim.Native.Nat.{_<_, _≤_, _%_};
+ghost use mathlib.Core.Bool.{Bool, true, _&&_};
+ghost use lib.ListN.{length, replicate};
+ghost use Prim.Native.Nat.{ℕ, _<_, _≤_, _%_};
 ghost use Rattle.meaning.specs.RuleFile as format;
 ghost use Rattle.meaning.specs.RuleFile.{ruleOf, letterMove, treeMove};
 ghost use Rattle.meaning.specs.SkipBook.{anyBelow, bit};
 ghost use Rattle.meaning.specs.Differences as differences;
-ghost use Rattle.meaning.specs.Differences.{pair, bothLead, acceptsAndRejects, ledApartAbove};
+ghost use Rattle.meaning.specs.Differences.{pair, bothLead, acceptsAndRejects, ledApartAbove, pairsWhere, leastRelation, topRelation, lowerRelation};
 ghost use Rattle.meaning.specs.StateSets.{statesWhere};
 ghost use Rattle.rule.specs.Says.{RuleOf};
 ghost use Rattle.rule.specs.Tables.{moveSays};
 ghost use Rattle.book.specs.Sets.{StatesOf};
-ghost use Rattle.congruence.specs.Rows.{LeadsLow, EndsAre, goesIn, isOf};
+ghost use Rattle.congruence.specs.Rows.{LeadsLow, EndsAre, SameRows, goesIn, isOf};
 
 // Whether a state is in the set that a word stands for: its bit.
 fn in_set(word: u64, state: u8) -> bool
@@ -313,4 +314,101 @@ fn row_of(
         y += 1;
     }
     narrow(row)
+}
+
+// A relation with no pair.
+fn no_pairs() -> [u16; 16]
+    ensures { λ r. ⌜ r ≡ replicate 16 0 ⌝ }
+{
+    [0; 16]
+}
+
+// The relation of all pairs of a kind.
+fn relation_of(
+    kind: Kind,
+    file: &[u8],
+    rule: Rule,
+    lowers: u64,
+    set: u64,
+    relation: &[u16; 16],
+) -> [u16; 16]
+    requires { ⌜ RuleOf (now file) rule ⌝ }
+    requires { ⌜ rule .states ≤ 16 ⌝ }
+    requires { ⌜ EndsAre (ruleOf (now file)) lowers ⌝ }
+    ensures { λ r. ⌜ r ≡ pairsWhere (ruleOf (now (file .entry))) (isOf kind (ruleOf (now (file .entry))) set (now (relation .entry))) ⌝ }
+{
+    let mut rows = no_pairs();
+    let mut x: u8 = 0;
+    while x < rule.states {
+        rows[x as usize] = row_of(kind, file, rule, lowers, set, relation, x);
+        x += 1;
+    }
+    rows
+}
+
+// Whether two relations have the same rows.
+fn same(one: &[u16; 16], other: &[u16; 16]) -> bool
+    ensures { λ r. ⌜ (r ≡ true → SameRows (now (one .entry)) (now (other .entry))) ⌝ }
+{
+    let mut x: u8 = 0;
+    while x < 16 {
+        if one[x as usize] != other[x as usize] {
+            return false;
+        }
+        x += 1;
+    }
+    true
+}
+
+// The most rounds: there are no more pairs.
+const ROUNDS: u16 = 256;
+
+// The least relation that holds the pairs of a start. A round that adds nothing ends it, since none after it adds.
+fn least(file: &[u8], rule: Rule, lowers: u64, start: [u16; 16]) -> [u16; 16]
+    requires { ⌜ RuleOf (now file) rule ⌝ }
+    requires { ⌜ rule .states ≤ 16 ⌝ }
+    requires { ⌜ EndsAre (ruleOf (now file)) lowers ⌝ }
+    requires { ⌜ length start ≡ 16 ⌝ }
+    ensures { λ r. ⌜ ((test : ℕ → ℕ → Bool) → start ≡ pairsWhere (ruleOf (now (file .entry))) test → r ≡ leastRelation (ruleOf (now (file .entry))) test) ⌝ }
+{
+    let mut relation = start;
+    let mut round: u16 = 0;
+    while round < ROUNDS {
+        let next = relation_of(Kind::Round, file, rule, lowers, 0, &relation);
+        if same(&next, &relation) {
+            return relation;
+        }
+        relation = next;
+        round += 1;
+    }
+    relation
+}
+
+// The relation of the top level.
+pub fn top_relation(file: &[u8], rule: Rule, lowers: u64) -> [u16; 16]
+    requires { ⌜ RuleOf (now file) rule ⌝ }
+    requires { ⌜ rule .states ≤ 16 ⌝ }
+    requires { ⌜ EndsAre (ruleOf (now file)) lowers ⌝ }
+    ensures { λ r. ⌜ r ≡ topRelation (ruleOf (now (file .entry))) ⌝ }
+{
+    let none = no_pairs();
+    let start = relation_of(Kind::Top, file, rule, lowers, 0, &none);
+    least(file, rule, lowers, start)
+}
+
+// The relation of a level opened under a set with its relation.
+pub fn lower_relation(
+    file: &[u8],
+    rule: Rule,
+    lowers: u64,
+    set: u64,
+    relation: &[u16; 16],
+) -> [u16; 16]
+    requires { ⌜ RuleOf (now file) rule ⌝ }
+    requires { ⌜ rule .states ≤ 16 ⌝ }
+    requires { ⌜ EndsAre (ruleOf (now file)) lowers ⌝ }
+    ensures { λ r. ⌜ r ≡ lowerRelation (ruleOf (now (file .entry))) set (now (relation .entry)) ⌝ }
+{
+    let start = relation_of(Kind::Lower, file, rule, lowers, set, relation);
+    least(file, rule, lowers, start)
 }

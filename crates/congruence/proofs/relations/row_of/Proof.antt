@@ -45,8 +45,7 @@ loop-less c = omega arith
 loop-again : tie.Need-loop-again Inv-loop μ-loop
 loop-again c =
     let start = c .before .before .before .before .before .before .before in
-    let loop = c .before .before .before .before .before .loop in
-    (
+    let loop = c .before .before .before .before .before .loop in (
       omega arith,
       c .with .ensures _ (loop .y) (c .before .before .only .ensures) (sym (c .before .is-of .ensures (start .pre .1 .1 .0))) (loop .inv .1),
       c .with .ok,
