@@ -12,23 +12,25 @@ use lib.Bits.{bitAnd}
 use lib.Count.{trailingZeros}
 use lib.ListN.{length, getD, set, replicate, length-set, getD-replicate, List·getD-eq-default}
 use lib.Seq.{getD-set-same, getD-set-other, ext-getD}
-use borrow.Author.Tests.{ltb-true, ltb-false}
-use Rattle.meaning.specs.Answers.{_<?_}
-use Rattle.meaning.specs.StateSets.{statesWhere, someIn}
+use borrow.Author.Tests.{ltb-true, ltb-false, eqb-true}
+use Rattle.meaning.specs.Answers.{_<?_, _=?_}
+use Rattle.meaning.specs.StateSets.{statesWhere, someIn, only}
 use Rattle.meaning.specs.RuleFile.{Rule, Move, IsRule, to, letterMove, treeMove, classOf, ruleOf}
-use Rattle.meaning.specs.SkipBook.{anyBelow, listed, marked, endMarks, wordOf, bit}
+use Rattle.meaning.specs.SkipBook.{anyBelow, goesTo, listed, marked, startMarks, endRound, endsIn, endMarks, wordOf, bit}
 use Rattle.meaning.specs.Differences.{pair, bothLead, ledApart, ledApartAbove, apart, pairsWhere, pairRound, pairsIn, leastRelation}
 use Rattle.meaning.proofs.laws.Truths.{truth, same-truth, true-is-not-false, not-true-false, and-false-right, or-true-left, or-true-right, both-false}
 use Rattle.meaning.proofs.laws.Answered.{and-true, both-true}
 use Rattle.meaning.proofs.laws.Bools.{last-or-below, listed-at, listed-length, any-below-fails, no-below-any, any-below-same}
 use Rattle.meaning.proofs.skipbook.Bits.{word-below, bit-word, bit-and, bit-zero, bit-past, same-bits, cleared-less}
 use Rattle.meaning.proofs.skipbook.Marks.{marked-below, marked-true}
-use Rattle.book.specs.Sets.{StatesOf, StandsFor, firstOf}
-use Rattle.book.proofs.Standing.{lowest-first, rest-states, members-below, stands-as, stands-word, first-true, first-in}
+use Rattle.meaning.proofs.skipbook.Rounds.{end-keeps, end-alike, ends-never-used-up, marked-ends}
+use Rattle.book.specs.Sets.{StatesOf, StandsFor, firstOf, endsWord, EndsFound}
+use Rattle.book.proofs.InRounds.{word-stays}
+use Rattle.book.proofs.Standing.{lowest-first, rest-states, members-below, stands-as, stands-word, stands-only, first-true, first-in}
 use Rattle.meaning.proofs.rulefile.Accepted.{accepted-is-rule}
-use Rattle.meaning.proofs.skipbook.Reaching.{letter-below, tree-below}
+use Rattle.meaning.proofs.skipbook.Reaching.{letter-below, tree-below, initial-below, ends-below}
 use Rattle.rule.specs.declared.Rule as numbers
-use Rattle.rule.specs.Says.{RuleOf}
+use Rattle.rule.specs.Says.{numbersOf, RuleOf}
 use Rattle.rule.specs.declared.tables.Table.the-variants.{LetterMoves, TreeMoves}
 use Rattle.rule.specs.declared.tables.Move as tables
 use Rattle.rule.specs.declared.tables.Move.the-variants as found
@@ -357,3 +359,31 @@ unfolding someIn
 some-is {file} {rule} ok set test states =
     members-below (rule .states) set test (few-states ok) states
     ∙ ap (λ (n : ℕ). anyBelow n (λ m. bit set m && test m)) (sym (states-are ok))
+
+-- ---- the states in which a tree can end, as they are found
+
+pub ends-are : {R : Rule} → IsRule R → (set : ℕ) (moves : List ℕ) → EndsFound R 63 set moves → EndsAre R set
+unfolding EndsAre endsWord endMarks endsIn
+ends-are {R} rule set moves found p =
+    ap (λ (w : ℕ). bit w p)
+    (found .setIs
+    ∙ sym (word-stays R (endRound R) (end-keeps R) (end-alike R) (startMarks R) (λ i p e. ends-below rule (marked-ends R i p e)) 63 (ends-never-used-up R rule)))
+    ∙ bit-word (endMarks R) p
+
+-- ---- the initial state
+
+pub initial-is : {file : List ℕ} {rule : numbers.Rule} → RuleOf file rule → ruleOf file .initial ≡ rule .initial
+unfolding numbersOf
+initial-is ok = ap (λ (r : numbers.Rule). r .initial) (ok .numbers)
+
+pub initial-low : {file : List ℕ} {rule : numbers.Rule} → RuleOf file rule → rule .initial < rule .states
+initial-low ok = omega (arith, initial-below (accepted-is-rule _ (ok .accepted)), initial-is ok, states-are ok)
+
+-- the word of one state alone
+pub only-word : {R : Rule} → IsRule R → (n q w : ℕ) → R .states ≡ n → n ≤ 16 → q < n → w ≡ 2 ^ q → w < 2 ^ 64 → w % 65536 ≡ only R q
+unfolding only goesTo
+only-word {R} rule n q w same few low is small =
+    row-word rule w n (λ p. q =? p) same few small
+    (stands-as w (λ p. q =? p) (firstOf n (λ p. q =? p)) (λ p h. same-truth (q =? p) (firstOf n (λ p. q =? p) p)
+    (λ t. let e : q ≡ p = eqb-true q p t in first-in n (λ p. q =? p) p (omega arith) t) (λ f. first-true n (λ p. q =? p) p f .1))
+    (rw is (stands-only q)))

@@ -281,7 +281,7 @@ fn is_of(
 }
 
 // The lower 16 bits of a word.
-fn narrow(word: u64) -> u16
+pub fn narrow(word: u64) -> u16
     ensures { λ r. ⌜ r ≡ word % 65536 ⌝ }
 {
     (word % 65536) as u16

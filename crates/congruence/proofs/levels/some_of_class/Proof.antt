@@ -31,16 +31,29 @@ class-at-requires : tie.Need-class-at-requires Inv-loop μ-loop
 class-at-requires c κs = search needs
 
 returns : tie.Need-returns Inv-loop μ-loop
-returns c = ?
+returns c =
+    let start = c .before .before .before .before .before in
+    let loop = c .before .before .before .loop in
+    let some : 0 < loop .rest = omega arith in
+    let here = lowest-state (start .args .rule .states) (loop .rest) some (loop .inv .small) (loop .inv .low) in
+    let is = class-is (start .pre .0) (trailingZeros 64 (loop .rest)) here in
+    sym (seeking-found _ _ _ (loop .rest) (loop .inv) some (eq-eqb _ _ (sym is ∙ (sym (c .before .class-at .ensures) ∙ c .if1 .taken))))
+    ∙ some-is (start .pre .0) (start .args .set) _ (start .pre .1)
 
 sub-rest : tie.Need-sub-rest Inv-loop μ-loop
 sub-rest c = omega arith
 
 loop-less : tie.Need-loop-less Inv-loop μ-loop
-loop-less c = ?
+loop-less c = cleared-less (c .before .before .before .loop .rest) (omega arith)
 
 loop-again : tie.Need-loop-again Inv-loop μ-loop
-loop-again c = ?
+loop-again c =
+    let start = c .before .before .before .before .before in
+    let loop = c .before .before .before .loop in
+    let some : 0 < loop .rest = omega arith in
+    let here = lowest-state (start .args .rule .states) (loop .rest) some (loop .inv .small) (loop .inv .low) in
+    let is = class-is (start .pre .0) (trailingZeros 64 (loop .rest)) here in
+    seeking-next _ _ _ (loop .rest) (loop .inv) some (ne-eqb _ _ (λ e. c .if1 .left (c .before .class-at .ensures ∙ (is ∙ e))))
 
 returns-2 : tie.Need-returns-2 Inv-loop μ-loop
 returns-2 c =
