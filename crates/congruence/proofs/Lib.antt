@@ -1,3 +1,4 @@
 -- What the proofs of the functions go by.
 pub mod SetWords
 pub mod PairWords
+pub mod Opens

@@ -1,2 +1,3 @@
 -- What the contracts of this room cite beside the definitions.
 pub mod Rows
+pub mod Opens

@@ -1,6 +1,6 @@
 // The second way of reading, for rules of up to 16 states: on each level a set of states and a relation that says which of them can
 // still be told apart.
 mod levels;
-mod opening;
+pub mod opening;
 mod relations;
 mod sets;
