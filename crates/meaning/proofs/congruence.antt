@@ -7,3 +7,4 @@ pub mod Turned
 pub mod Stored
 pub mod KeptSets
 pub mod PromiseCalls
+pub mod Telling

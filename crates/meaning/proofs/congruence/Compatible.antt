@@ -95,7 +95,7 @@ module _ {R : Rule} (rule : IsRule R) (few : R .states ≤ mostSetStates) where
   -- ---- an open
 
   -- x and y are led apart above: by two states of the set
-  above-by : (set : ℕ) (relation : List ℕ) (x y : ℕ) → ledApartAbove R set relation x y ≡ true
+  pub above-by : (set : ℕ) (relation : List ℕ) (x y : ℕ) → ledApartAbove R set relation x y ≡ true
       → Some R set (λ p. Some R set (λ q. BothLead (pair relation) (treeMove R p x) (treeMove R q y)))
   unfolding ledApartAbove
   above-by set relation x y e =

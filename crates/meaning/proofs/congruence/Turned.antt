@@ -72,6 +72,17 @@ module _ (R : Rule) (room ceiling : ℕ) (r : SetReading) (top : SetLevel) where
   pub set-turned : (e : ℕ) {turn : TurnOf SetReading SetLevel} → setEvent R room ceiling r top e ≡ given turn → SetTurned R room r top turn
   set-turned e taken = gives (event-turned e) taken
 
+-- an event that is passed over is no look, and changes the skip depth alone
+pub record SkipAlone (r r′ : SetReading) : Type 0 where
+  pub looks : r′ .looks ≡ r .looks
+  pub set : r′ .set ≡ r .set
+  pub relation : r′ .relation ≡ r .relation
+  pub depth : r′ .depth ≡ r .depth
+
+pub passed-alone : (r : SetReading) (skip : ℕ) → SkipAlone r (setPassed r skip)
+unfolding setPassed
+passed-alone r skip = record { looks = refl; set = refl; relation = refl; depth = refl }
+
 -- at the top, where no level is open, none is read
 module _ (R : Rule) (room ceiling : ℕ) (r : SetReading) (atTop : r .depth ≡ 0) where
   close-at-top : (l : SetLevel) (lowers : ℕ) → setCloses R ceiling r l lowers ≡ refused 7 (r .taken)
