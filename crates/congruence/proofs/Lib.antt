@@ -2,3 +2,4 @@
 pub mod SetWords
 pub mod PairWords
 pub mod Opens
+pub mod TurnLaws

@@ -1,3 +1,4 @@
 -- What the contracts of this room cite beside the definitions.
 pub mod Rows
 pub mod Opens
+pub mod Turns

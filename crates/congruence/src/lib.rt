@@ -4,3 +4,4 @@ mod levels;
 pub mod opening;
 mod relations;
 mod sets;
+pub mod turns;

@@ -27,7 +27,7 @@ fn in_set(word: u64, state: u8) -> bool
 }
 
 // A row of a relation as a set.
-fn wide(row: u16) -> u64
+pub fn wide(row: u16) -> u64
     ensures { λ r. ⌜ r ≡ row ⌝ }
 {
     row as u64

@@ -30,7 +30,7 @@ enum LookedUp {
 }
 
 // The number of the refusal where a table has no move.
-fn no_move_number(table: Table) -> u8
+pub fn no_move_number(table: Table) -> u8
     ensures { λ r. ⌜ r ≡ noMoveNumber (tableSays table) ⌝ }
 {
     match table {
