@@ -3,3 +3,4 @@ pub mod SetWords
 pub mod PairWords
 pub mod Opens
 pub mod TurnLaws
+pub mod AllBelow

@@ -1,27 +1,30 @@
 -- Laws of one event, which the proofs of the functions cite: sets of few states are words of 16 bits, the tree start is a set, and each
 -- of the three looks is one text.
 use mathlib.Core.Path.{_≡_, refl, sym, ap, _∙_}
-use mathlib.Core.Bool.{Bool}
+use mathlib.Core.Logic.{⊎-elim}
+use mathlib.Core.Bool.{Bool, true, false}
 use mathlib.Core.List.{List}
 use Prim.Native.Nat.{ℕ, _+_, _-_, _^_, _≤_, _<_}
 use native.Mathlib.Nat.{lt-of-lt-of-le}
 use native.Mathlib.Omega.{arith}
 use lib.ListN.{length}
 use lib.Pow.{pow-mono}
-use borrow.Author.Tests.{lt-leb, ne-eqb}
-use Rattle.meaning.specs.Answers.{refuse_at_when_otherwise_, _≤?_, _=?_}
+use borrow.Author.Tests.{lt-leb, ne-eqb, ltb-true, ltb-false}
+use Rattle.meaning.specs.Answers.{refuse_at_when_otherwise_, _≤?_, _<?_, _=?_}
 use Rattle.meaning.specs.RuleFile.{Rule, IsRule, ruleOf, treeStartMove}
 use Rattle.meaning.specs.FullReading.{opens, letter}
-use Rattle.meaning.specs.SkipBook.{goesTo, listed, wordOf}
+use Rattle.meaning.specs.SkipBook.{goesTo, listed, wordOf, bit}
 use Rattle.meaning.specs.StateSets.{statesWhere, reachable, letterMoves, treeStarts, treeMoves}
 use Rattle.meaning.specs.Differences.{lowerRelation}
+use Rattle.meaning.specs.SetCalls.{setOut, relationOut, levelOut}
 use Rattle.meaning.specs.SetTurns.{setLook, setCloses, movingTurn}
 use Rattle.meaning.specs.declared.sets.SetReading.{SetReading}
 use Rattle.meaning.specs.declared.sets.SetLevel.{SetLevel}
-use Rattle.meaning.proofs.laws.Answered.{refuse-passes}
-use Rattle.meaning.proofs.laws.Bools.{listed-length}
+use Rattle.meaning.proofs.laws.Answered.{refuse-passes, or-false, not-false-true}
+use Rattle.meaning.proofs.laws.Truths.{truth, true-is-not-false, implied}
+use Rattle.meaning.proofs.laws.Bools.{all-below, listed-length}
 use Rattle.meaning.proofs.rulefile.Accepted.{accepted-is-rule}
-use Rattle.meaning.proofs.skipbook.Bits.{word-below}
+use Rattle.meaning.proofs.skipbook.Bits.{word-below, bit-past}
 use Rattle.meaning.proofs.skipbook.Reaching.{start-below}
 use Rattle.meaning.proofs.skipbook.Rounds.{goes-true}
 use Rattle.meaning.proofs.congruence.Sets.{where-low, reachable-low}
@@ -45,6 +48,10 @@ where-small R test few =
     let more : 2 ^ length (listed (R .states) test) ≤ 2 ^ 16 = pow-mono short in
     lt-of-lt-of-le below more
 
+states-below : (n w p : ℕ) → StatesOf n w → bit w p ≡ true → p < n
+unfolding StatesOf
+states-below n w p so e = so p e
+
 module _ {file : List ℕ} {rule : numbers.Rule} (ok : RuleOf file rule) (few : rule .states ≤ 16) where
   few-are : ruleOf file .states ≤ 16
   few-are = omega (arith, states-are ok)
@@ -65,6 +72,24 @@ module _ {file : List ℕ} {rule : numbers.Rule} (ok : RuleOf file rule) (few : 
   pub reached-states : (set all : ℕ) → all ≡ reachable (ruleOf file) set → StatesOf (rule .states) all
   unfolding StatesOf
   reached-states set all is p e = omega (arith, states-are ok, reachable-low (ruleOf file) set p (rw is at e))
+
+-- the states of a word of 16 bits
+pub low-states : (w : ℕ) → w < 65536 → StatesOf 16 w
+unfolding StatesOf
+low-states w small p e =
+    ⊎-elim (λ t. ltb-true p 16 t) (λ f. true-is-not-false e (bit-past 16 w p small (ltb-false p 16 f))) (truth (p <? 16))
+
+pub reachable-small : (R : Rule) (set : ℕ) → R .states ≤ 16 → reachable R set < 65536
+unfolding reachable
+reachable-small R set few = where-small R _ few
+
+-- a set that is in range is of states
+pub in-range-states : (R : Rule) (set : ℕ) (relation : List ℕ) → set < 65536 → levelOut R set relation ≡ false → StatesOf (R .states) set
+unfolding StatesOf levelOut setOut
+in-range-states R set relation small isIn p e =
+    let past = or-false (set =? 0) _ (or-false _ (relationOut R relation) isIn .0) .1 in
+    let low : p < 16 = states-below 16 set p (low-states set small) e in
+    ltb-true p (R .states) (implied (bit set p) _ (all-below 16 _ (not-false-true past) p low) e)
 
 -- the tree start as a word
 pub start-word : {file : List ℕ} {rule : numbers.Rule} → RuleOf file rule → (w : ℕ) → w < 2 ^ 64

@@ -2,3 +2,4 @@
 pub mod Rows
 pub mod Opens
 pub mod Turns
+pub mod Stores

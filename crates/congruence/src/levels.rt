@@ -14,7 +14,7 @@ ghost use Rattle.rule.specs.Says.{RuleOf};
 ghost use Rattle.book.specs.Sets.{StatesOf};
 
 // Whether no two states of a set of all that is reachable are a pair of the relation: the level is stopped.
-fn none_apart(relation: &[u16; 16], all: u64) -> bool
+pub fn none_apart(relation: &[u16; 16], all: u64) -> bool
     requires { ⌜ StatesOf 16 all ⌝ }
     ensures { λ r. ⌜ ((R : format.Rule) → R .states ≤ 16 → StatesOf (R .states) all → r ≡ not (differences.apart R all (now (relation .entry)))) ⌝ }
 {

@@ -19,7 +19,7 @@ ghost use Rattle.book.specs.Sets.{StatesOf};
 ghost use Rattle.congruence.specs.Rows.{LeadsLow, EndsAre, SameRows, goesIn, isOf};
 
 // Whether a state is in the set that a word stands for: its bit.
-fn in_set(word: u64, state: u8) -> bool
+pub fn in_set(word: u64, state: u8) -> bool
     requires { ⌜ state < 64 ⌝ }
     ensures { λ r. ⌜ r ≡ bit word state ⌝ }
 {
@@ -34,7 +34,7 @@ pub fn wide(row: u16) -> u64
 }
 
 // Whether x and y are a pair of the relation.
-fn is_pair(relation: &[u16; 16], x: u8, y: u8) -> bool
+pub fn is_pair(relation: &[u16; 16], x: u8, y: u8) -> bool
     requires { ⌜ x < 16 ⌝ }
     requires { ⌜ y < 16 ⌝ }
     ensures { λ r. ⌜ r ≡ pair (now (relation .entry)) x y ⌝ }
@@ -317,7 +317,7 @@ fn row_of(
 }
 
 // A relation with no pair.
-fn no_pairs() -> [u16; 16]
+pub fn no_pairs() -> [u16; 16]
     ensures { λ r. ⌜ r ≡ replicate 16 0 ⌝ }
 {
     [0; 16]

@@ -1,0 +1,14 @@
+-- The two lent slices as one store, and what a finish answers.
+use Prim.Native.Nat.{ℕ}
+use mathlib.Core.List.{List}
+use Rattle.meaning.specs.Answers.{Answer, given, refused}
+use Rattle.meaning.specs.SetCalls.{SetStore}
+use Rattle.congruence.specs.declared.ending.SetEnd.{SetEnd}
+use Rattle.congruence.specs.declared.ending.SetEnd.the-variants as end
+
+abbrev pub storeOf : List ℕ → List ℕ → SetStore
+storeOf words places = record { words = words; places = places }
+
+unfoldable pub endSays : SetEnd → Answer ℕ
+endSays (end.Class class) = given class
+endSays (end.Refused refusal) = refused (refusal .number) (refusal .place)

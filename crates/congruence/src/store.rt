@@ -1,0 +1,52 @@
+// The level store: two lent slices of numbers. Of each level the first has 17 words, the set and the 16 rows of its relation; the second
+// has the place of its opening.
+use crate::relations::no_pairs;
+use meaning::sets::SetLevel;
+ghost use mathlib.Core.Path.{_≡_};
+ghost use Prim.Native.Nat.{_+_, _≤_, _<_};
+ghost use lib.ListN.{length, getD};
+ghost use Rattle.meaning.specs.SkipBook.{listed};
+ghost use Rattle.meaning.specs.SetCalls.{setRoom, setLevelAt};
+ghost use Rattle.congruence.specs.Stores.{storeOf};
+
+// The words of a level.
+const LEVEL_WORDS: usize = 17;
+
+// How many levels it has room for.
+pub fn room(words: &[u16], places: &[u32]) -> usize
+    ensures { λ r. ⌜ r ≡ setRoom (storeOf (now (words .entry)) (now (places .entry))) ⌝ }
+{
+    let many = words.len() / LEVEL_WORDS;
+    if many < places.len() {
+        return many;
+    }
+    places.len()
+}
+
+// The 16 words from a place on.
+fn rows_at(words: &[u16], first: usize) -> [u16; 16]
+    requires { ⌜ first + 16 ≤ length (now words) ⌝ }
+    ensures { λ r. ⌜ r ≡ listed 16 (λ x. getD (now (words .entry)) (first + x) 0) ⌝ }
+{
+    let mut rows = no_pairs();
+    let mut x: usize = 0;
+    while x < 16 {
+        rows[x] = words[first + x];
+        x += 1;
+    }
+    rows
+}
+
+// What is stored of a level.
+pub fn level_at(words: &[u16], places: &[u32], i: usize) -> SetLevel
+    requires { ⌜ i < setRoom (storeOf (now words) (now places)) ⌝ }
+    ensures { λ r. ⌜ r ≡ setLevelAt (storeOf (now (words .entry)) (now (places .entry))) i ⌝ }
+{
+    let at = i * LEVEL_WORDS;
+    let relation = rows_at(words, at + 1);
+    SetLevel {
+        set: words[at],
+        relation,
+        opened: places[i],
+    }
+}
