@@ -4,3 +4,4 @@ pub mod PairWords
 pub mod Opens
 pub mod TurnLaws
 pub mod AllBelow
+pub mod Ends

@@ -1,7 +1,8 @@
 -- The two lent slices as one store, and what a finish answers.
 use Prim.Native.Nat.{ℕ}
+use mathlib.Core.Bool.{Bool}
 use mathlib.Core.List.{List}
-use Rattle.meaning.specs.Answers.{Answer, given, refused}
+use Rattle.meaning.specs.Answers.{Answer, given, refused, if_then_else_}
 use Rattle.meaning.specs.SetCalls.{SetStore}
 use Rattle.congruence.specs.declared.ending.SetEnd.{SetEnd}
 use Rattle.congruence.specs.declared.ending.SetEnd.the-variants as end
@@ -12,3 +13,7 @@ storeOf words places = record { words = words; places = places }
 unfoldable pub endSays : SetEnd → Answer ℕ
 endSays (end.Class class) = given class
 endSays (end.Refused refusal) = refused (refusal .number) (refusal .place)
+
+-- the states that count on a level that stands so
+unfoldable pub countingOf : ℕ → Bool → ℕ → ℕ
+countingOf all still set = if still then all else set

@@ -36,10 +36,10 @@ pub fn fresh_sets(file: &[u8], rule: Rule) -> SetReading
 }
 
 // The most states of a rule that is read in this way.
-const MOST_STATES: u8 = 16;
+pub const MOST_STATES: u8 = 16;
 
 // The number of its own refusal.
-const TOO_MANY_STATES: u8 = 19;
+pub const TOO_MANY_STATES: u8 = 19;
 
 // How opening ended: a reading that is ready to be fed, or a refusal.
 pub enum SetOpened {
