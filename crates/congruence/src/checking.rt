@@ -159,7 +159,8 @@ pub struct Standing {
 pub fn stands(moves: &[u64; 64], reading: SetReading) -> Standing
     ensures { λ r. ⌜ ((R : format.Rule) → IsRule R → R .states ≤ 16 → Moves R (endMarks R) (now (moves .entry)) → StatesOf (R .states) (reading .set) → StandsSet R reading (r .all) (r .still)) ⌝ }
 {
-    let all = wide(narrow(reached(moves, wide(reading.set))));
+    let set = wide(reading.set);
+    let all = wide(narrow(reached(moves, set)));
     let relation = reading.relation;
     let still = none_apart(&relation, all);
     Standing { all, still }
