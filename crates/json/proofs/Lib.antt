@@ -37,3 +37,4 @@ pub mod SaysOne
 pub mod SpellsKey
 pub mod BlockOn
 pub mod BlockRuns
+pub mod KeysHeard

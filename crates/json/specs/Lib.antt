@@ -10,3 +10,5 @@ pub mod Naming
 pub mod Running
 pub mod Spelling
 pub mod Blocks
+pub mod Pieces
+pub mod Laying

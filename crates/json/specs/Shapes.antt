@@ -12,6 +12,7 @@ use Rattle.json.specs.Reader.{Kind, object, array, value, member, colon,
 pub data Shape : Type 0 where
   stopped : Shape
   onward : Mode → List ℕ → Shape
+  beginning : Whose → List ℕ → Shape
   keyEnd : Shape
   opening : Kind → Shape
   closing : List ℕ → Shape
@@ -19,7 +20,7 @@ pub data Shape : Type 0 where
 unfoldable pub shapeOf : Move → Shape
 shapeOf stops = stopped
 shapeOf (leads m es) = onward m es
-shapeOf (begins w es) = onward (string w plain) es
+shapeOf (begins w es) = beginning w es
 shapeOf (hears w i) = onward (string w i) []
 shapeOf (says w i p) = onward (string w i) []
 shapeOf (counts w i less) = onward (string w i) []
@@ -105,8 +106,8 @@ otherShapes top =
     ∷ onward (number digits) (5 ∷ [])
     ∷ onward (number zeroFirst) (5 ∷ [])
     ∷ onward (number afterMinus) (5 ∷ [])
-    ∷ onward (string ofValue plain) (4 ∷ [])
-    ∷ onward (string ofKey plain) []
+    ∷ beginning ofValue (4 ∷ [])
+    ∷ beginning ofKey []
     ∷ onward (word 0x72 (0x75 ∷ 0x65 ∷ [])) (6 ∷ [])
     ∷ onward (word 0x61 (0x6C ∷ 0x73 ∷ 0x65 ∷ [])) (7 ∷ [])
     ∷ onward (word 0x75 (0x6C ∷ 0x6C ∷ [])) (8 ∷ [])
@@ -140,6 +141,7 @@ openedTo most m k ks = if length ks <? most then onTo m (k ∷ ks) 2 else tooMan
 unfoldable pub shapeCount : ℕ → List Kind → Shape → Count
 shapeCount most ks stopped = noText
 shapeCount most ks (onward m es) = onTo m ks (length es)
+shapeCount most ks (beginning w es) = onTo (string w plain) ks (length es)
 shapeCount most ks keyEnd = onTo (gap colon) ks 2
 shapeCount most ks (opening object) = openedTo most (gap (member true)) object ks
 shapeCount most ks (opening array) = openedTo most (gap (value true)) array ks

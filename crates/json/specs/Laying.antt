@@ -1,0 +1,49 @@
+-- The events of a text, as the second pass lays them down: by the shape of what a byte does, and the bytes after the quotation mark
+-- of the string last begun, from which the letter of a key is found where the key ends. That this is the reader's answer is proved
+-- (proofs/KeysHeard.antt).
+use Prim.Native.Nat.{ℕ, suc}
+use mathlib.Core.List.{List, [], _∷_, _++_}
+use Rattle.meaning.specs.Answers.{Answer, given, refused, _giving_, if_then_else_}
+use Rattle.meaning.specs.JsonKeys.{keyLetter}
+use Rattle.json.specs.Reader.{Kind, object, array, Mode, moveAt, mayEnd}
+use Rattle.json.specs.Shapes.{Shape, stopped, onward, beginning, keyEnd, opening, closing, shapeOf, Count, onTo, noText, tooMany, shapeCount}
+use Rattle.json.specs.Pieces.{plainly, piecesFrom}
+
+-- the event of a key's letter
+unfoldable pub keyEvent : List (List ℕ) → List ℕ → ℕ
+keyEvent names begun = suc (suc (keyLetter names (piecesFrom plainly begun)))
+
+-- the events of a shape, where a key that ends has this event
+unfoldable pub shapeEvents : ℕ → Shape → List ℕ
+shapeEvents key stopped = []
+shapeEvents key (onward m es) = es
+shapeEvents key (beginning w es) = es
+shapeEvents key keyEnd = 0 ∷ key ∷ []
+shapeEvents key (opening object) = 0 ∷ 2 ∷ []
+shapeEvents key (opening array) = 0 ∷ 3 ∷ []
+shapeEvents key (closing es) = es
+
+-- the bytes of the string last begun, after a byte: those that follow it, if it begins one
+unfoldable pub begunAfter : Shape → List ℕ → List ℕ → List ℕ
+begunAfter stopped begun s = begun
+begunAfter (onward m es) begun s = begun
+begunAfter (beginning w es) begun s = s
+begunAfter keyEnd begun s = begun
+begunAfter (opening k) begun s = begun
+begunAfter (closing es) begun s = begun
+
+-- events before those of an answer
+unfoldable pub before : List ℕ → Answer (List ℕ) → Answer (List ℕ)
+before es answer = answer giving λ more. given (es ++ more)
+
+unfoldable pub onLaid : ℕ → Count → List ℕ → (Mode → List Kind → Answer (List ℕ)) → Answer (List ℕ)
+onLaid place (onTo m ks n) es rest = before es (rest m ks)
+onLaid place noText es rest = refused 20 place
+onLaid place tooMany es rest = refused 21 place
+
+-- the events of the rest of a text, or its refusal
+unfoldable pub layFrom : List (List ℕ) → ℕ → ℕ → Mode → List Kind → List ℕ → List ℕ → Answer (List ℕ)
+layFrom names most place m ks begun [] = if mayEnd m ks then given [] else refused 20 place
+layFrom names most place m ks begun (b ∷ s) =
+    onLaid place (shapeCount most ks (shapeOf (moveAt m ks b))) (shapeEvents (keyEvent names begun) (shapeOf (moveAt m ks b)))
+    (λ next kinds. layFrom names most (suc place) next kinds (begunAfter (shapeOf (moveAt m ks b)) begun s) s)
