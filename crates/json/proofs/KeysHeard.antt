@@ -18,6 +18,7 @@ use Rattle.json.specs.Reader.{rows, spaceRows, gapRows, valueRows, empty
 use Rattle.json.specs.Shapes.{Shape, onward, beginning, shapeOf, Count, onTo, noText, tooMany, openedTo, shapeCount}
 use Rattle.json.specs.Pieces.{escapeByte, hexValue, Await, plainly, escaping, hexDigits, piecesFrom}
 use Rattle.json.specs.Laying.{keyEvent, shapeEvents, begunAfter, before, onLaid, layFrom}
+use Rattle.json.proofs.PieceLaws.{one-byte, hex-decimal, hex-upper, hex-lower}
 use Rattle.json.proofs.Rows.{Each, no-row, and-range, and-on, looked-up}
 
 -- ---- where no key is read, none goes on
@@ -185,22 +186,6 @@ quiet-kept begun m key b (closes es) e = tt
 
 -- ---- the bytes of a key
 
-one-byte : (b : ℕ) (s : List ℕ) → (b ≡ 0x22 → ⊥) → (b ≡ 0x5C → ⊥) → piecesFrom plainly (b ∷ s) ≡ byte b ∷ piecesFrom plainly s
-unfolding piecesFrom
-one-byte b s p q = if-false _ _ (ne-eqb b 0x22 p) ∙ if-false _ _ (ne-eqb b 0x5C q)
-
-hex-decimal : (b : ℕ) → b ≤ 0x39 → hexValue b ≡ b - 0x30
-unfolding hexValue
-hex-decimal b h = if-true _ _ (le-leb b 0x39 h)
-
-hex-upper : (b : ℕ) → 0x41 ≤ b → b ≤ 0x46 → hexValue b ≡ b - 0x37
-unfolding hexValue
-hex-upper b h l = if-false _ _ (lt-leb b 0x39 (omega arith)) ∙ if-true _ _ (le-leb b 0x46 l)
-
-hex-lower : (b : ℕ) → 0x61 ≤ b → hexValue b ≡ b - 0x57
-unfolding hexValue
-hex-lower b h = if-false _ _ (lt-leb b 0x39 (omega arith)) ∙ if-false _ _ (lt-leb b 0x46 (omega arith))
-
 module _ (begun : List ℕ) where
   plain-on : (key : List Piece) (b : ℕ) (s : List ℕ) → (b ≡ 0x22 → ⊥) → (b ≡ 0x5C → ⊥) → HeardPlain begun key (b ∷ s)
       → HeardPlain begun (byte b ∷ key) s
@@ -276,15 +261,15 @@ module _ (begun : List ℕ) where
     unfolding hexRows Kept Heard
     hex-kept i j left from to =
         and-range (λ b h l s e. to _ s (hex-on left key b (b - 0x30) s (hex-decimal b l) (from _ e)))
-        (and-range (λ b h l s e. to _ s (hex-on left key b (b - 0x37) s (hex-upper b h l) (from _ e)))
-        (and-range (λ b h l s e. to _ s (hex-on left key b (b - 0x57) s (hex-lower b h) (from _ e))) no-row))
+        (and-range (λ b h l s e. to _ s (hex-on left key b (b - 0x37) s (hex-upper b (omega arith) l) (from _ e)))
+        (and-range (λ b h l s e. to _ s (hex-on left key b (b - 0x57) s (hex-lower b (omega arith)) (from _ e))) no-row))
 
     last-kept : Each (In hex1) (hexRows ofKey plain)
     unfolding hexRows Kept Heard HeardIn
     last-kept =
         and-range (λ b h l s e. hex-last key b (b - 0x30) s (hex-decimal b l) e)
-        (and-range (λ b h l s e. hex-last key b (b - 0x37) s (hex-upper b h l) e)
-        (and-range (λ b h l s e. hex-last key b (b - 0x57) s (hex-lower b h) e) no-row))
+        (and-range (λ b h l s e. hex-last key b (b - 0x37) s (hex-upper b (omega arith) l) e)
+        (and-range (λ b h l s e. hex-last key b (b - 0x57) s (hex-lower b (omega arith)) e) no-row))
 
     key-kept : (i : InString) → Each (In i) (stringRows ofKey i)
     unfolding stringRows Kept Heard HeardIn

@@ -37,4 +37,5 @@ pub mod SaysOne
 pub mod SpellsKey
 pub mod BlockOn
 pub mod BlockRuns
+pub mod PieceLaws
 pub mod KeysHeard

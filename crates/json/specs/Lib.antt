@@ -12,3 +12,4 @@ pub mod Spelling
 pub mod Blocks
 pub mod Pieces
 pub mod Laying
+pub mod Speaking

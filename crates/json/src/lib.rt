@@ -2,7 +2,9 @@
 mod blocks;
 pub mod checking;
 pub mod naming;
+mod pieces;
 mod running;
+mod spelling;
 mod table;
 mod turns;
 
@@ -33,4 +35,25 @@ pub enum Turn {
 pub struct Ran {
     pub next: usize,
     pub place: u8,
+}
+
+// A piece of a key, a byte or the sixteen bits of a \uXXXX, and where the next one stands; or the end of the key.
+pub enum Spoken {
+    Byte(u8, usize),
+    Unit(u32, usize),
+    End,
+}
+
+// How far a key is spelled: where its next piece stands, how many bytes it has so far, and the first of a surrogate pair that waits
+// for its second, 0 if none does.
+pub struct Spelt {
+    pub next: usize,
+    pub count: usize,
+    pub high: u32,
+}
+
+// A piece more of a key, or all of it: so many bytes.
+pub enum Step {
+    On(Spelt),
+    Done(usize),
 }
