@@ -39,3 +39,4 @@ pub mod BlockOn
 pub mod BlockRuns
 pub mod PieceLaws
 pub mod KeysHeard
+pub mod SpellLaws

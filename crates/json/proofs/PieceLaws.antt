@@ -34,7 +34,6 @@ pub hex-lower : (b : ℕ) → 0x46 < b → hexValue b ≡ b - 0x57
 unfolding hexValue
 hex-lower b h = if-false _ _ (lt-leb b 0x39 (omega arith)) ∙ if-false _ _ (lt-leb b 0x46 h)
 
-
 pub escape-other : (e : ℕ) → (e ≡ 0x62 → ⊥) → (e ≡ 0x66 → ⊥) → (e ≡ 0x6E → ⊥) → (e ≡ 0x72 → ⊥) → (e ≡ 0x74 → ⊥) → e ≡ escapeByte e
 unfolding escapeByte
 escape-other e b f n r t =
@@ -152,3 +151,16 @@ module _ (text : List ℕ) (place : ℕ) (h : place < length text) (e : getD tex
       ∙ (four-digits text (place + 2) (omega arith)
       ∙ (ap (λ (v : ℕ). unit v ∷ piecesFrom plainly (drop (place + 2 + 4) text)) (sym said)
       ∙ ap (λ (k : ℕ). unit n ∷ piecesFrom plainly (drop k text)) six))))
+
+-- ---- what a piece that is told says
+
+pub said-byte : {text : List ℕ} {place b next : ℕ} → SpokenAt text place (spoken.Byte b next)
+    → (place < next) × (next ≤ length text) × (piecesFrom plainly (drop place text) ≡ byte b ∷ piecesFrom plainly (drop next text))
+said-byte (spokenByte h l e) = (h, l, e)
+
+pub said-unit : {text : List ℕ} {place n next : ℕ} → SpokenAt text place (spoken.Unit n next)
+    → (place < next) × (next ≤ length text) × (n < 0x110000) × (piecesFrom plainly (drop place text) ≡ unit n ∷ piecesFrom plainly (drop next text))
+said-unit (spokenUnit h l m e) = (h, l, m, e)
+
+pub said-end : {text : List ℕ} {place : ℕ} → SpokenAt text place spoken.End → piecesFrom plainly (drop place text) ≡ []
+said-end (spokenEnd e) = e

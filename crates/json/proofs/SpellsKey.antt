@@ -97,7 +97,7 @@ lone-second n ps bytes name h l =
     ∙ ap (λ t. not (t || hasLone ps) && sameBytes (bytes ++ bytesOf (unit n ∷ ps)) name) l
 
 -- once alone, it stays so
-stays-alone : (ps : List Piece) (name : List ℕ) → spells (spell alone ps) name ≡ false
+pub stays-alone : (ps : List Piece) (name : List ℕ) → spells (spell alone ps) name ≡ false
 unfolding spell spellOn spells
 stays-alone [] name = refl
 stays-alone (p ∷ ps) name = stays-alone ps name

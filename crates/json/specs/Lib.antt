@@ -13,3 +13,4 @@ pub mod Blocks
 pub mod Pieces
 pub mod Laying
 pub mod Speaking
+pub mod SpeltSo
