@@ -40,3 +40,4 @@ pub mod BlockRuns
 pub mod PieceLaws
 pub mod KeysHeard
 pub mod SpellLaws
+pub mod NamesPassed
