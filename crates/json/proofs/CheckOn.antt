@@ -7,13 +7,15 @@ use native.Mathlib.Nat.{add-assoc, add-zero, zero-add}
 use native.Mathlib.Numerals.{add-one}
 use native.Mathlib.Omega.{arith}
 use lib.ListN.{length, getD, drop}
-use lib.Seq.{drop-cons, drop-nil}
+use lib.Seq.{drop-cons}
 use Rattle.meaning.specs.Answers.{Answer, given, refused, _giving_, if_then_else_}
 use Rattle.json.specs.Reader.{value, gap, moveAt, mayEnd}
 use Rattle.json.specs.Shapes.{within, wordPlaces, places, placeAt, shapeOf, Count, onTo, noText, tooMany, shapeCount, adding, onCount, countFrom}
 use Rattle.json.specs.Standings.{kindsOf, kindsIn, Stands, GoodTurn, goodOn, turnSays}
 use Rattle.json.specs.Running.{Runs}
 use Rattle.json.specs.Checking.{Checks}
+use Rattle.json.proofs.LayLaws.{drop-all}
+use Rattle.json.proofs.CountsRead.{counting, counts-laid}
 use Rattle.json.specs.declared.Standing.{Standing}
 use Rattle.json.specs.declared.Turn.{Turn}
 use Rattle.json.specs.declared.Turn.the-variants as turn
@@ -34,12 +36,6 @@ adding-if : (t : Bool) (n place : ℕ) → adding n (if t then given 0 else refu
 unfolding adding _giving_ if_then_else_
 adding-if true n place = ap given (add-zero n)
 adding-if false n place = refl
-
--- nothing is left past the end
-pub drop-all : (k : ℕ) (l : List ℕ) → length l ≤ k → drop k l ≡ []
-drop-all k [] h = drop-nil k
-drop-all zero (x ∷ l) h = absurd (omega arith)
-drop-all (suc k) (x ∷ l) h = drop-all k l (omega arith)
 
 -- a turn that leads on has two events at the most
 pub few-events : {next : Standing} {events : ℕ} → GoodTurn (turn.On next events) → Stands next × (events ≤ 2)
@@ -104,7 +100,11 @@ module _ {text : List ℕ} {at : Standing} {count i : ℕ} (so : Checks text at 
         within = ran .within;
         stands = record { placed = ran .placed; few = so .stands .few; bits = so .stands .bits };
         few = omega (arith, so .few, ran .further);
-        comes = so .comes ∙ ap (adding count) (ran .comes (kindsIn at));
+        comes =
+            so .comes
+            ∙ ap (adding count)
+            (sym (counts-laid [] 64 i (placeAt (at .place)) (kindsIn at) [] (drop i text))
+            ∙ (ap counting (ran .comes [] (kindsIn at) []) ∙ counts-laid [] 64 _ _ (kindsIn at) [] _));
       }
 
   -- ---- the end

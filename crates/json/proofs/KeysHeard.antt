@@ -312,11 +312,6 @@ module _ (names : List (List ℕ)) (most : ℕ) where
       onLaid place (shapeCount most ks (shapeOf move)) (shapeEvents (keyEvent names begun) (shapeOf move))
       (λ next kinds. layFrom names most (suc place) next kinds (begunAfter (shapeOf move) begun s) s)
 
-  begins-heard : (s : List ℕ) (w : Whose) → Heard s (string w plain) [] s
-  unfolding Heard HeardIn HeardPlain
-  begins-heard s ofKey = refl
-  begins-heard s ofValue = tt
-
   opens-same : (place : ℕ) (ks : List Kind) (m : Mode) (k : Kind) (key : List Piece) (begun s es : List ℕ)
       → readFrom names most (suc place) (state m (k ∷ ks) key) s ≡ layFrom names most (suc place) m (k ∷ ks) begun s
       → reading place s (opened most ks (goes m (k ∷ ks) key es))
@@ -332,10 +327,11 @@ module _ (names : List (List ℕ)) (most : ℕ) where
   byte-same : (place : ℕ) (m : Mode) (ks : List Kind) (key : List Piece) (begun : List ℕ) (b : ℕ) (s : List ℕ) → SameOn s
       → Heard begun m key (b ∷ s) → (move : Move) → Kept begun m key b move
       → reading place s (perform names most ks key b move) ≡ laying place ks begun s move
-  unfolding perform onNext onLaid before shapeCount shapeOf shapeEvents begunAfter Kept keyEvent Heard
+  unfolding perform onNext onLaid before shapeCount shapeOf shapeEvents begunAfter Kept keyEvent Heard HeardIn HeardPlain
   byte-same place m ks key begun b s same h stops k = refl
   byte-same place m ks key begun b s same h (leads n es) k = ap (before es) (same (suc place) n ks key begun (k s h))
-  byte-same place m ks key begun b s same h (begins w es) k = ap (before es) (same (suc place) (string w plain) ks [] s (begins-heard s w))
+  byte-same place m ks key begun b s same h (begins ofKey es) k = ap (before es) (same (suc place) (string ofKey plain) ks [] s refl)
+  byte-same place m ks key begun b s same h (begins ofValue es) k = ap (before es) (same (suc place) (string ofValue plain) ks [] begun tt)
   byte-same place m ks key begun b s same h (hears w i) k = ap (before []) (same (suc place) (string w i) ks _ begun (k s h))
   byte-same place m ks key begun b s same h (says w i p) k = ap (before []) (same (suc place) (string w i) ks _ begun (k s h))
   byte-same place m ks key begun b s same h (counts w i less) k = ap (before []) (same (suc place) (string w i) ks _ begun (k s h))

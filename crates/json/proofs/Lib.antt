@@ -37,6 +37,7 @@ pub mod SaysOne
 pub mod SpellsKey
 pub mod BlockOn
 pub mod BlockRuns
+pub mod LayLaws
 pub mod PieceLaws
 pub mod KeysHeard
 pub mod SpellLaws

@@ -12,7 +12,8 @@ use Rattle.meaning.specs.JsonKeys.{NamesFrom, found, cutShort, inName, nextName
 use Rattle.meaning.proofs.laws.Answered.{refuse-passes, refuse-stops, giving-passes, giving-stops}
 use Rattle.json.specs.Shapes.{adding}
 use Rattle.json.specs.Naming.{namesCount, countNames, Names}
-use Rattle.json.proofs.CheckOn.{adding-none, adding-both, drop-all}
+use Rattle.json.proofs.LayLaws.{drop-all}
+use Rattle.json.proofs.CheckOn.{adding-none, adding-both}
 
 -- ---- one name
 

@@ -14,7 +14,7 @@ use Rattle.meaning.specs.JsonKeys.{Piece, sameBytes, equals, nameIndex, NamesFr
 use Rattle.meaning.proofs.laws.Answered.{if-true, if-false}
 use Rattle.meaning.proofs.laws.Truths.{by-cases}
 use Rattle.json.specs.Naming.{listed, namesIn, WholeNames, EqualsBy, Passed}
-use Rattle.json.proofs.CheckOn.{drop-all}
+use Rattle.json.proofs.LayLaws.{drop-all}
 use Rattle.json.proofs.SpellLaws.{other-count}
 
 -- ---- one name

@@ -16,7 +16,7 @@ use Rattle.json.specs.Pieces.{escapeByte, hexValue, Await, plainly, esca
 use Rattle.json.specs.Speaking.{fourDigits, SpokenAt, spokenByte, spokenUnit, spokenEnd}
 use Rattle.json.specs.declared.Spoken.{Spoken}
 use Rattle.json.specs.declared.Spoken.the-variants as spoken
-use Rattle.json.proofs.CheckOn.{drop-all}
+use Rattle.json.proofs.LayLaws.{drop-all}
 
 pub one-byte : (b : ℕ) (s : List ℕ) → (b ≡ 0x22 → ⊥) → (b ≡ 0x5C → ⊥) → piecesFrom plainly (b ∷ s) ≡ byte b ∷ piecesFrom plainly s
 unfolding piecesFrom

@@ -1,11 +1,11 @@
 -- The events of a text, as the second pass lays them down: by the shape of what a byte does, and the bytes after the quotation mark
--- of the string last begun, from which the letter of a key is found where the key ends. That this is the reader's answer is proved
+-- of the key last begun, from which its letter is found where it ends. That this is the reader's answer is proved
 -- (proofs/KeysHeard.antt).
 use Prim.Native.Nat.{ℕ, suc}
 use mathlib.Core.List.{List, [], _∷_, _++_}
 use Rattle.meaning.specs.Answers.{Answer, given, refused, _giving_, if_then_else_}
 use Rattle.meaning.specs.JsonKeys.{keyLetter}
-use Rattle.json.specs.Reader.{Kind, object, array, Mode, moveAt, mayEnd}
+use Rattle.json.specs.Reader.{Kind, object, array, ofKey, ofValue, Mode, moveAt, mayEnd}
 use Rattle.json.specs.Shapes.{Shape, stopped, onward, beginning, keyEnd, opening, closing, shapeOf, Count, onTo, noText, tooMany, shapeCount}
 use Rattle.json.specs.Pieces.{plainly, piecesFrom}
 
@@ -23,11 +23,12 @@ shapeEvents key (opening object) = 0 ∷ 2 ∷ []
 shapeEvents key (opening array) = 0 ∷ 3 ∷ []
 shapeEvents key (closing es) = es
 
--- the bytes of the string last begun, after a byte: those that follow it, if it begins one
+-- the bytes of the key last begun, after a byte: those that follow it, if it begins one
 unfoldable pub begunAfter : Shape → List ℕ → List ℕ → List ℕ
 begunAfter stopped begun s = begun
 begunAfter (onward m es) begun s = begun
-begunAfter (beginning w es) begun s = s
+begunAfter (beginning ofKey es) begun s = s
+begunAfter (beginning ofValue es) begun s = begun
 begunAfter keyEnd begun s = begun
 begunAfter (opening k) begun s = begun
 begunAfter (closing es) begun s = begun

@@ -157,15 +157,23 @@ fn other(at: Standing, code: u8) -> Turn
     }
 }
 
+// What a code says.
+pub fn turn_of(at: Standing, code: u8) -> Turn
+    requires { ⌜ Stands at ⌝ }
+    ensures says { λ r. ⌜ turnSays r ≡ shapeCount 64 (kindsIn at) (shapeAt (topOf (kindsIn at)) code) ⌝ }
+    ensures good { λ r. ⌜ GoodTurn r ⌝ }
+{
+    if code < table::PLACES {
+        return on(at, code, 0);
+    }
+    other(at, code)
+}
+
 // One byte.
 pub fn turn(at: Standing, b: u8) -> Turn
     requires { ⌜ Stands at ⌝ }
     ensures says { λ r. ⌜ turnSays r ≡ shapeCount 64 (kindsIn at) (shapeOf (moveAt (placeAt (at .place)) (kindsIn at) b)) ⌝ }
     ensures good { λ r. ⌜ GoodTurn r ⌝ }
 {
-    let code = table::code_at(at.place, table::class_of(b));
-    if code < table::PLACES {
-        return on(at, code, 0);
-    }
-    other(at, code)
+    turn_of(at, table::code_at(at.place, table::class_of(b)))
 }
