@@ -42,3 +42,5 @@ pub mod PieceLaws
 pub mod KeysHeard
 pub mod SpellLaws
 pub mod NamesPassed
+pub mod EventsSay
+pub mod LayOn

@@ -1,13 +1,19 @@
 -- The events of a text, as the second pass lays them down: by the shape of what a byte does, and the bytes after the quotation mark
 -- of the key last begun, from which its letter is found where it ends. That this is the reader's answer is proved
 -- (proofs/KeysHeard.antt).
-use Prim.Native.Nat.{ℕ, suc}
+use Prim.Native.Nat.{ℕ, suc, _-_, _≤_}
+use mathlib.Core.Path.{_≡_}
+use mathlib.Core.Bool.{false}
 use mathlib.Core.List.{List, [], _∷_, _++_}
-use Rattle.meaning.specs.Answers.{Answer, given, refused, _giving_, if_then_else_}
+use lib.ListN.{length, getD, take, drop}
+use Rattle.meaning.specs.Answers.{Answer, given, refused, _giving_, _=?_, if_then_else_}
 use Rattle.meaning.specs.JsonKeys.{keyLetter}
-use Rattle.json.specs.Reader.{Kind, object, array, ofKey, ofValue, Mode, moveAt, mayEnd}
-use Rattle.json.specs.Shapes.{Shape, stopped, onward, beginning, keyEnd, opening, closing, shapeOf, Count, onTo, noText, tooMany, shapeCount}
+use Rattle.json.specs.Reader.{Kind, object, array, ofKey, ofValue, value, Mode, gap, moveAt, mayEnd}
+use Rattle.json.specs.Shapes.{Shape, stopped, onward, beginning, keyEnd, opening, closing, shapeOf, Count, onTo, noText, tooMany, shapeCount, placeAt}
 use Rattle.json.specs.Pieces.{plainly, piecesFrom}
+use Rattle.json.specs.Naming.{namesIn}
+use Rattle.json.specs.Standings.{kindsIn, Stands}
+use Rattle.json.specs.declared.Standing.{Standing}
 
 -- the event of a key's letter
 unfoldable pub keyEvent : List (List ℕ) → List ℕ → ℕ
@@ -48,3 +54,48 @@ layFrom names most place m ks begun [] = if mayEnd m ks then given [] else refus
 layFrom names most place m ks begun (b ∷ s) =
     onLaid place (shapeCount most ks (shapeOf (moveAt m ks b))) (shapeEvents (keyEvent names begun) (shapeOf (moveAt m ks b)))
     (λ next kinds. layFrom names most (suc place) next kinds (begunAfter (shapeOf (moveAt m ks b)) begun s) s)
+
+-- ---- by code, as the program has it
+
+-- the first event of each code from 49 on, and the second
+unfoldable pub firsts : List ℕ
+firsts = 0 ∷ 5 ∷ 5 ∷ 5 ∷ 4 ∷ 0 ∷ 6 ∷ 7 ∷ 8 ∷ 0 ∷ 0 ∷ 1 ∷ 1 ∷ 1 ∷ 1 ∷ 0 ∷ []
+
+unfoldable pub seconds : List ℕ
+seconds = 0 ∷ 0 ∷ 0 ∷ 0 ∷ 0 ∷ 0 ∷ 0 ∷ 0 ∷ 0 ∷ 2 ∷ 3 ∷ 0 ∷ 0 ∷ 1 ∷ 0 ∷ 0 ∷ []
+
+-- 64 ends a key
+unfoldable pub secondEvent : ℕ → ℕ → ℕ
+secondEvent key code = if code =? 64 then key else getD seconds (code - 49) 0
+
+-- so many of two events
+unfoldable pub firstOf : ℕ → ℕ → ℕ → List ℕ
+firstOf n first second = take n (first ∷ second ∷ [])
+
+-- ---- on the way through a text
+
+-- the whole text's events
+unfoldable pub laidText : List ℕ → List ℕ → Answer (List ℕ)
+laidText list text = layFrom (namesIn list) 64 0 (gap (value false)) [] text text
+
+-- they are there, and there is room for them
+pub record HasRoom (text list slice : List ℕ) : Type 0 where
+  pub events : List ℕ
+  pub are : laidText list text ≡ given events
+  pub room : length events ≤ length slice
+
+-- so many are laid down, and the rest is to come
+pub record Lays (text list slice : List ℕ) (now : List ℕ) (at : Standing) (count begun next : ℕ) : Type 0 where
+  pub within : next ≤ length text
+  pub begunWithin : begun ≤ length text
+  pub stands : Stands at
+  pub few : count ≤ length now
+  pub longAs : length now ≡ length slice
+  pub behind : drop count now ≡ drop count slice
+  pub comes : laidText list text
+      ≡ before (take count now) (layFrom (namesIn list) 64 next (placeAt (at .place)) (kindsIn at) (drop begun text) (drop next text))
+
+-- what the slice holds at the end
+unfoldable pub laidOver : Answer (List ℕ) → List ℕ → List ℕ
+laidOver (given events) slice = events ++ drop (length events) slice
+laidOver (refused number place) slice = slice
