@@ -44,3 +44,4 @@ pub mod SpellLaws
 pub mod NamesPassed
 pub mod EventsSay
 pub mod LayOn
+pub mod ImportOn

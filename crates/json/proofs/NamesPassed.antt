@@ -52,7 +52,7 @@ unfolding nextName
 none-begun (found name names) e = cc
 none-begun cutShort e = let z : _≡_ {A = ℕ} 0 1 = cc in absurd (omega arith)
 
-begins-none : (l : List ℕ) {name : List ℕ} {names : List (List ℕ)} → namesFrom 0 l ≡ found name names → name ≡ []
+pub begins-none : (l : List ℕ) {name : List ℕ} {names : List (List ℕ)} → namesFrom 0 l ≡ found name names → name ≡ []
 unfolding namesFrom
 begins-none [] e = cc
 begins-none (n ∷ l) e = none-begun (namesFrom n l) e

@@ -4,7 +4,7 @@ use mathlib.Core.Path.{_≡_}
 use mathlib.Core.List.{List, []}
 use lib.ListN.{length, take, drop}
 use Rattle.meaning.specs.Answers.{Answer, given, refused, refuse_at_when_otherwise_, _giving_, _<?_}
-use Rattle.meaning.specs.JsonKeys.{NamesFrom, found, cutShort, namesFrom, namesOf, Piece, sameBytes, equals, nameIndex}
+use Rattle.meaning.specs.JsonKeys.{NamesFrom, found, cutShort, namesFrom, mostNames, namesOf, Piece, sameBytes, equals, nameIndex}
 use Rattle.json.specs.Shapes.{adding}
 
 unfoldable pub namesCount : NamesFrom → Answer ℕ
@@ -44,3 +44,9 @@ pub record Passed (list bytes : List ℕ) (index next : ℕ) : Type 0 where
   pub whole : WholeNames (drop next list)
   pub few : index + length (namesIn (drop next list)) ≡ length (namesIn list)
   pub comes : (ps : List Piece) → EqualsBy ps bytes → index + nameIndex (namesIn (drop next list)) ps ≡ nameIndex (namesIn list) ps
+
+-- the list is not refused
+pub record ListedNames (bytes : List ℕ) : Type 0 where
+  pub whole : WholeNames bytes
+  pub few : length (namesIn bytes) ≤ mostNames
+  pub are : namesOf bytes ≡ given (namesIn bytes)

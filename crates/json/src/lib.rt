@@ -10,6 +10,16 @@ mod table;
 mod turns;
 
 use meaning::Refusal;
+ghost use mathlib.Core.Path.{_≡_};
+ghost use mathlib.Core.List.{[]};
+ghost use mathlib.Core.Bool.{false};
+ghost use lib.ListN.{length};
+ghost use Rattle.meaning.specs.Answers.{given};
+ghost use Rattle.json.specs.Reader.{value, gap, readText};
+ghost use Rattle.json.specs.Shapes.{countFrom};
+ghost use Rattle.json.specs.Naming.{namesIn, ListedNames};
+ghost use Rattle.json.specs.Says.{importSays};
+ghost use Rattle.json.specs.Importing.{layDown, imported};
 
 // What an import answers: how many events it laid down, or a refusal.
 pub enum Imported {
@@ -57,4 +67,48 @@ pub struct Spelt {
 pub enum Step {
     On(Spelt),
     Done(usize),
+}
+
+// Room for the bytes of a key, more than the longest name has.
+fn key_room() -> [u8; 260]
+    ensures { λ r. ⌜ length r ≡ 260 ⌝ }
+{
+    [0; 260]
+}
+
+// The events of a good text, of which there are so many, if the slice has room for them.
+fn lay_down(text: &[u8], names: &[u8], events: &mut [u16], count: usize) -> Imported
+    requires { ⌜ ListedNames (now names) ⌝ ∗ ⌜ given count ≡ countFrom 64 0 (gap (value false)) [] (now text) ⌝ }
+    ensures says { λ r. ⌜ importSays r ≡ layDown (now (events .entry)) (readText (namesIn (now (names .entry))) (now (text .entry))) .answer ⌝ }
+    ensures slice { λ r. ⌜ now (events .exit) ≡ layDown (now (events .entry)) (readText (namesIn (now (names .entry))) (now (text .entry))) .slice ⌝ }
+{
+    if events.len() < count {
+        return checking::refuse(22, count);
+    }
+    let mut key = key_room();
+    laying::lay(text, names, &mut key, events);
+    Imported::Events(count)
+}
+
+// With a good list of names: the text is checked, then its events are laid down.
+fn import_with(text: &[u8], names: &[u8], events: &mut [u16]) -> Imported
+    requires { ⌜ ListedNames (now names) ⌝ }
+    ensures says { λ r. ⌜ importSays r ≡ layDown (now (events .entry)) (readText (namesIn (now (names .entry))) (now (text .entry))) .answer ⌝ }
+    ensures slice { λ r. ⌜ now (events .exit) ≡ layDown (now (events .entry)) (readText (namesIn (now (names .entry))) (now (text .entry))) .slice ⌝ }
+{
+    match checking::check(text) {
+        Imported::Refused(refusal) => Imported::Refused(refusal),
+        Imported::Events(count) => lay_down(text, names, events, count),
+    }
+}
+
+// The import: the events of a JSON text into the front of a lent slice, and their count. A refusal leaves the slice as it was.
+pub fn import(text: &[u8], names: &[u8], events: &mut [u16]) -> Imported
+    ensures says { λ r. ⌜ importSays r ≡ imported (now (text .entry)) (now (names .entry)) (now (events .entry)) .answer ⌝ }
+    ensures slice { λ r. ⌜ now (events .exit) ≡ imported (now (text .entry)) (now (names .entry)) (now (events .entry)) .slice ⌝ }
+{
+    match naming::count_names(names) {
+        Imported::Refused(refusal) => Imported::Refused(refusal),
+        Imported::Events(_) => import_with(text, names, events),
+    }
 }
