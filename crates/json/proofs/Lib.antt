@@ -45,3 +45,4 @@ pub mod NamesPassed
 pub mod EventsSay
 pub mod LayOn
 pub mod ImportOn
+pub mod ReadsImported

@@ -14,3 +14,4 @@ pub mod Pieces
 pub mod Laying
 pub mod Speaking
 pub mod SpeltSo
+pub mod ReadExports
