@@ -1,8 +1,8 @@
 // The import of a JSON text: the reader one byte at a time, and the loops over it.
 mod blocks;
-pub mod checking;
+mod checking;
 mod laying;
-pub mod naming;
+mod naming;
 mod pieces;
 mod running;
 mod spelling;

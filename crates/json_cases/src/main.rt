@@ -1,9 +1,10 @@
-// The texts that document 02 and its readings print, and others at the edges: each is checked, and the count of its events or its
-// refusal is printed. The expected lines stand in the file stdout.
+// The texts that document 02 and its readings print, and others at the edges: each is imported, and the count of its events or its
+// refusal is printed, and for short ones the slice. The expected lines stand in the file stdout.
 use json::Imported;
-use json::checking;
-use json::naming;
 use libc::STDOUT_FILENO;
+
+// What the slices hold before: no event that a text has.
+const HELD: u16 = 999;
 
 fn write(bytes: &[u8]) {
     io::write_all(STDOUT_FILENO, bytes);
@@ -31,12 +32,36 @@ fn line(label: &[u8], answer: Imported) {
     write(b"\n");
 }
 
+// With no names, into a slice that is long enough.
 fn text(label: &[u8], bytes: &[u8]) {
-    line(label, checking::check(bytes));
+    let mut events = [HELD; 256];
+    line(label, json::import(bytes, b"", &mut events));
 }
 
+// A list of names, with the text 0.
 fn names(label: &[u8], list: &[u8]) {
-    line(label, naming::count_names(list));
+    let mut events = [HELD; 1];
+    line(label, json::import(b"0", list, &mut events));
+}
+
+fn wide(event: u16) -> u64 {
+    event as u64
+}
+
+// The slice as well: what was laid down, and what stayed.
+fn slice(events: &[u16]) {
+    let mut i = 0;
+    while i < events.len() {
+        number(wide(events[i]));
+        i += 1;
+    }
+    write(b"\n");
+}
+
+fn held(label: &[u8], bytes: &[u8], list: &[u8]) {
+    let mut events = [HELD; 12];
+    line(label, json::import(bytes, list, &mut events));
+    slice(&events);
 }
 
 fn depth() {
@@ -129,7 +154,93 @@ fn lists() {
     names(b"249 empty names", &[0u8; 249]);
 }
 
+// The letters 0 to 6, members, and what stays.
+fn events() {
+    held(b"null", b"null", b"");
+    held(b"all kinds in an array", b"[\"\",0,true,false,null]", b"");
+    held(b"an object in an array", b"[{}]", b"");
+    held(b"an array in an object", b"{\"a\":[]}", b"");
+    held(b"two members", b"{\"a\":1,\"b\":2}", b"\x01b");
+    held(b"a key twice", b"{\"b\":1,\"b\":2}", b"\x01b");
+}
+
+// Keys, each before the value 0.
+fn keys() {
+    held(b"a", b"{\"a\":0}", b"\x01a\x04\xf0\x9f\x98\x80");
+    held(
+        b"a by an escape",
+        b"{\"\\u0061\":0}",
+        b"\x01a\x04\xf0\x9f\x98\x80",
+    );
+    held(
+        b"a pair of surrogates",
+        b"{\"\\ud83d\\ude00\":0}",
+        b"\x01a\x04\xf0\x9f\x98\x80",
+    );
+    held(
+        b"its four bytes",
+        b"{\"\xf0\x9f\x98\x80\":0}",
+        b"\x01a\x04\xf0\x9f\x98\x80",
+    );
+    held(
+        b"a lone surrogate before a pair",
+        b"{\"\\ud800\\ud83d\\ude00\":0}",
+        b"\x01a\x04\xf0\x9f\x98\x80",
+    );
+    held(
+        b"a lone surrogate and a name of its three bytes",
+        b"{\"\\ud800\":0}",
+        b"\x03\xed\xa0\x80",
+    );
+    held(
+        b"a lone surrogate and U+FFFD",
+        b"{\"\\ud800\":0}",
+        b"\x03\xef\xbf\xbd",
+    );
+    held(
+        b"letters by their escapes",
+        b"{\"\\b\\f\\n\\r\\t\\/\\\\\\\"\":0}",
+        b"\x08\x08\x0c\x0a\x0d\x09/\\\"",
+    );
+}
+
+fn more_keys() {
+    held(b"the empty key", b"{\"\":0}", b"\x01a\x00");
+    held(
+        b"the first of two equal names",
+        b"{\"a\":0}",
+        b"\x01b\x01a\x01a",
+    );
+    held(
+        b"a later name keeps its letter",
+        b"{\"c\":0}",
+        b"\x01a\x01a\x01c",
+    );
+    held(
+        b"a name that is not UTF-8",
+        b"{\"\xc3\xa9\":0}",
+        b"\x01\xc3",
+    );
+    held(b"two bytes", b"{\"\\u00e9\":0}", b"\x02\xc3\xa9");
+    held(b"three bytes", b"{\"\\u20AC\":0}", b"\x03\xe2\x82\xac");
+    held(b"MARCH1", b"{\"MARCH1\":0}", b"\x05MARCH\x06MARCH1");
+    held(b"another key after 248 names", b"{\"a\":0}", &[0u8; 248]);
+}
+
+fn refusals() {
+    held(b"a slice too short", b"[[],[],[],[],[]]", b"");
+    held(b"a slice just long enough", b"[[],[],[]]", b"");
+    held(b"not JSON, and too long a text", b"[[],[],[],[],[]],", b"");
+    held(b"a list cut short, and a bad text", b"[1,]", b"\x01");
+    held(b"249 names, and a bad text", b"", &[0u8; 249]);
+    held(b"the slice stays", b"[1,", b"");
+}
+
 fn main() {
+    events();
+    keys();
+    more_keys();
+    refusals();
     depth();
     commas_and_ends();
     numbers();
