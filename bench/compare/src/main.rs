@@ -8,6 +8,7 @@
 #![forbid(unsafe_code)]
 
 mod disagreements;
+mod json;
 mod linked;
 mod program;
 mod tally;
@@ -47,6 +48,7 @@ fn compare(count: u64, seed: u64, command: &[String], tally: &mut Tally) -> Resu
         program::run(count, seed, path, words, tally)?;
     }
     linked::run(count, seed, tally)?;
+    json::run(count, seed, tally)?;
     tally.print();
     tally.check(count)
 }

@@ -12,6 +12,7 @@ pub const FEED: Can = &[1, 2, 3, 4, 5, 6, 7, 8, 9, 10, 11, 13, 16];
 pub const FINISH: Can = &[1, 2, 3, 4, 5, 6, 12, 13];
 pub const WHOLE: Can = &[1, 2, 3, 4, 5, 6, 7, 8, 10, 11, 12];
 pub const LINE: Can = &[7, 8, 10, 11, 12];
+pub const JSON: Can = &[20, 21, 22, 30];
 
 /// Why some numbers are not brought out.
 const NEVER: &str = "\
@@ -23,7 +24,8 @@ const NEVER: &str = "\
 /// From so many inputs on, every number that can be given must have been.
 const ENOUGH: u64 = 10_000;
 
-const LAST_NUMBER: u64 = 16;
+/// All numbers, in the table's order.
+const NUMBERS: [u64; 20] = [1, 2, 3, 4, 5, 6, 7, 8, 9, 10, 11, 12, 13, 14, 15, 16, 20, 21, 22, 30];
 
 struct Row {
     name: &'static str,
@@ -61,11 +63,11 @@ impl Tally {
     /// The answers by call and number; `-` where a call never gives the number.
     pub fn print(&self) {
         print!("{:20}{:>9}{:>9}{:>9}", "answers", "all", "no room", "given");
-        (1..=LAST_NUMBER).for_each(|number| print!("{number:>7}"));
+        NUMBERS.iter().for_each(|number| print!("{number:>7}"));
         println!();
         for row in &self.rows {
             print!("{:20}{:>9}{:>9}{:>9}", row.name, row.answers(), row.unfit, row.times(0));
-            for number in 1..=LAST_NUMBER {
+            for number in NUMBERS {
                 match (row.times(number), row.can.contains(&number)) {
                     (0, false) => print!("{:>7}", "-"),
                     (times, _) => print!("{times:>7}"),
@@ -80,7 +82,7 @@ impl Tally {
     /// or did and should not.
     pub fn check(&self, count: u64) -> Result<(), String> {
         for row in &self.rows {
-            for number in 1..=LAST_NUMBER {
+            for number in NUMBERS {
                 let (times, can) = (row.times(number), row.can.contains(&number));
                 if times == 0 && can && count >= ENOUGH {
                     return Err(format!("{}: the inputs never brought out {number}", row.name));

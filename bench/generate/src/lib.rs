@@ -7,6 +7,7 @@ pub mod calls;
 pub mod damage;
 pub mod events;
 pub mod inputs;
+pub mod json;
 pub mod printed;
 pub mod prng;
 pub mod rules;

@@ -8,8 +8,10 @@
 //! asked of a caller but that the slices are slices and those written to are apart
 //! from the others, which Rust's references say.
 
+mod json;
 mod store;
 
+pub use json::json;
 pub use store::{feed, finish, read_document, Store};
 
 /// Room enough for the answer of every call.

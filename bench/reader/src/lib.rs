@@ -1,4 +1,5 @@
-//! A second reading of document 01, written from the paper alone.
+//! A second reading of document 01, and of document 02's import of JSON texts
+//! ([`json`]), written from the papers alone.
 //!
 //! It serves only for comparison: plain safe code, tables in vectors, sets as
 //! sets, Reach by a walk over a graph. Readings are answered in three ways that
@@ -19,6 +20,7 @@ pub mod book;
 pub mod calls;
 pub mod check;
 pub mod hedge;
+pub mod json;
 pub mod numbers;
 pub mod positions;
 pub mod reading;
@@ -30,6 +32,7 @@ pub use book::{make_book, Book};
 pub use calls::{finish, fresh, whole};
 pub use check::check_program;
 pub use hedge::feed;
+pub use json::import;
 pub use numbers::Refusal;
 pub use reading::{End, Fed, Level, Outcome, Reading, Report, Verdict};
 pub use rule::{Class, Rule};

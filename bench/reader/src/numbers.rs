@@ -37,6 +37,16 @@ pub const ROUNDS: u8 = 15;
 /// 4,294,967,295 events already taken; place: the event.
 pub const EVENTS_USED_UP: u8 = 16;
 
+/// Not JSON; place: the first byte with which no JSON text can go on, or the text's
+/// length if it only ends early.
+pub const NOT_JSON: u8 = 20;
+/// The 65th container open at once; place: the byte that opens it.
+pub const TOO_DEEP: u8 = 21;
+/// Slice too short; place: the events needed.
+pub const EVENTS_SHORT: u8 = 22;
+/// List of names cut short, or more than 248 names; place 0.
+pub const NAMES: u8 = 30;
+
 /// A number with its place.
 #[derive(Clone, Copy, Debug, PartialEq, Eq, Hash)]
 pub struct Refusal {

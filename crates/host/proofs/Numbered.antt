@@ -16,6 +16,10 @@ use Rattle.meaning.specs.Calls.{Stored, freshCall, storeStep, readingCheck, fed
 use Rattle.meaning.specs.declared.Reading.{Reading}
 use Rattle.meaning.specs.declared.Level.{Level}
 use Rattle.rule.specs.Says.{checkAnswer}
+use Rattle.meaning.specs.JsonKeys.{NamesFrom, found, cutShort, namesFrom, listedNames, namesOf}
+use Rattle.meaning.specs.JsonImport.{Judged, isText, notJson, tooDeep, endsEarly, Imports, badNames, badText, tooShort, imports}
+use Rattle.json.specs.Importing.{imported}
+use Rattle.json.proofs.ImportSays.{import-right}
 use Rattle.host.specs.Numbers.{answerNumbers, fedNumbers}
 
 pub data Numbered {A : Type 0} : Answer A → Type 0 where
@@ -183,6 +187,33 @@ whole (refused number place) file book store events (isRefused h) = isRefused h
 pub document-numbered : (file book : List ℕ) (store : List Level) (events : List ℕ) → Numbered (wholeDocument file book store events .answer)
 unfolding wholeDocument
 document-numbered file book store events = whole _ file book store events (book-numbered file book)
+
+-- ---- the import
+
+names-numbered : (w : NamesFrom) → Numbered (listedNames w)
+unfolding listedNames
+names-numbered (found name names) = refuses _ _ _ _ (omega arith) isGiven
+names-numbered cutShort = isRefused {number = 30} (omega arith)
+
+is-numbered : {A : Type 0} {x : Answer A} {number place : ℕ} → Numbered x → x ≡ refused number place → 0 < number
+is-numbered isGiven e = let z : _≡_ {A = ℕ} 0 1 = cc in absurd (omega arith)
+is-numbered (isRefused {number} h) e = let same : number ≡ _ = cc in omega arith
+
+judged-numbered : {list : List (List ℕ)} {text : List ℕ} {a : Answer (List ℕ)} → Judged list text a → Numbered a
+judged-numbered (isText whole) = isGiven
+judged-numbered (notJson front b back same on stops) = isRefused {number = 20} (omega arith)
+judged-numbered (tooDeep front b back same on most more stops) = isRefused {number = 21} (omega arith)
+judged-numbered (endsEarly on none) = isRefused {number = 20} (omega arith)
+
+imports-numbered : {text names slice held : List ℕ} {a : Answer ℕ} → Imports text names slice a held → Numbered a
+unfolding namesOf
+imports-numbered {names = names} (badNames e) = isRefused (is-numbered (names-numbered (namesFrom 0 names)) e)
+imports-numbered (badText e judged) = isRefused (is-numbered (judged-numbered judged) refl)
+imports-numbered (tooShort e judged h) = isRefused {number = 22} (omega arith)
+imports-numbered (imports e judged h) = isGiven
+
+pub import-numbered : (text names slice : List ℕ) → Numbered (imported text names slice .answer)
+import-numbered text names slice = imports-numbered (import-right text names slice)
 
 -- ---- what a host may count on
 

@@ -35,7 +35,7 @@ answerNumbers values (refused number place) = number ∷ place ∷ []
 abbrev pub ruleValues : Rule → List ℕ
 ruleValues R = R .states ∷ R .initial ∷ R .«tree_start» ∷ R .letters ∷ []
 
--- the count of bytes written, or of states that are still
+-- the count of bytes written, of states that are still, or of events
 abbrev pub countValue : ℕ → List ℕ
 countValue count = count ∷ []
 

@@ -1,6 +1,7 @@
 // The numbers of each answer, laid into the lent slice.
 use crate::lay::lay;
 use book::Made;
+use json::Imported;
 use meaning::End;
 use meaning::Fed;
 use meaning::Feeding;
@@ -17,6 +18,7 @@ ghost use mathlib.Core.List.{[], _∷_};
 ghost use Rattle.meaning.specs.Calls.{verdictSays, endSays, feedingSays};
 ghost use Rattle.rule.specs.Says.{checkedSays, writtenSays};
 ghost use Rattle.book.specs.Says.{madeSays};
+ghost use Rattle.json.specs.Says.{importSays};
 ghost use Rattle.reading.specs.Checks.{begunSays};
 ghost use Rattle.host.specs.Numbers.{Laid, answerNumbers, ruleValues, countValue, readingValues, judgedValues, fedNumbers};
 
@@ -163,5 +165,15 @@ pub fn lay_end(end: End, answer: &mut [u64]) -> bool
     match end {
         End::Judged(judged) => lay_judged(judged, answer),
         End::Refused(refusal) => lay_refusal(refusal, answer),
+    }
+}
+
+// The answer of the import.
+pub fn lay_imported(imported: Imported, answer: &mut [u64]) -> bool
+    ensures { λ r. ⌜ Laid (answerNumbers countValue (importSays imported)) (now (answer .entry)) r (now (answer .exit)) ⌝ }
+{
+    match imported {
+        Imported::Events(count) => lay_count(count as u64, answer),
+        Imported::Refused(refusal) => lay_refusal(refusal, answer),
     }
 }

@@ -1,4 +1,4 @@
-// What a host in C or Rust links: the calls of rule, book and reading on numbers and slices. Each call lays its answer into a
+// What a host in C or Rust links: the calls of rule, book, reading and json on numbers and slices. Each call lays its answer into a
 // lent slice of 64-bit numbers: the number of the refusal or 0, its place or 0, and then the values that were given. It returns
 // whether they fitted: into a slice that is too short nothing is laid. Eight numbers are room enough for every call.
 mod answers;
@@ -8,9 +8,11 @@ use answers::lay_begun;
 use answers::lay_checked;
 use answers::lay_end;
 use answers::lay_fed;
+use answers::lay_imported;
 use answers::lay_made;
 use answers::lay_written;
 use book::make_book;
+use json::import;
 use meaning::Level;
 use meaning::Reading;
 use reading::feed;
@@ -26,6 +28,7 @@ ghost use Rattle.meaning.specs.SkipBook.{makeBook, bookAfter};
 ghost use Rattle.meaning.specs.Calls.{freshCall, feedCall, finishCall, wholeDocument};
 ghost use Rattle.rule.specs.Says.{checkAnswer};
 ghost use Rattle.rule.specs.Checks.{ruleFrom};
+ghost use Rattle.json.specs.Importing.{imported};
 ghost use Rattle.host.specs.Numbers.{Laid, answerNumbers, ruleValues, countValue, readingValues, judgedValues, readingFrom, FeedLaid, DocumentLaid};
 
 // The rule check: n, the initial state, the tree start and k.
@@ -150,4 +153,13 @@ pub extern "C" fn venticapro_read_document(
 {
     let end = read_document(file, &mut *book, &mut *levels, events);
     lay_end(end, answer)
+}
+
+// The import of a JSON text: the count of events, which lie in the front of the slice lent.
+#[no_mangle]
+pub extern "C" fn venticapro_json(text: &[u8], names: &[u8], events: &mut [u16], answer: &mut [u64]) -> bool
+    ensures { λ r. ⌜ Laid (answerNumbers countValue (imported (now (text .entry)) (now (names .entry)) (now (events .entry)) .answer)) (now (answer .entry)) r (now (answer .exit)) ⌝ }
+    ensures { λ _. ⌜ now (events .exit) ≡ imported (now (text .entry)) (now (names .entry)) (now (events .entry)) .slice ⌝ }
+{
+    lay_imported(import(text, names, events), answer)
 }
