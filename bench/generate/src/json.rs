@@ -12,13 +12,28 @@ pub struct Export {
 }
 
 /// Keys and names are drawn from these, so that they meet.
-const WORDS: [&str; 14] =
-    ["", "a", "b", "id", "MARCH1", "gene", "é", "€", "\u{1F600}", "a/b", "\"", "\\", "\n", "\u{FFFD}"];
+const WORDS: [&str; 14] = [
+    "",
+    "a",
+    "b",
+    "id",
+    "MARCH1",
+    "gene",
+    "é",
+    "€",
+    "\u{1F600}",
+    "a/b",
+    "\"",
+    "\\",
+    "\n",
+    "\u{FFFD}",
+];
 
 /// Bytes that matter somewhere.
 const TELLING: [u8; 40] = [
-    0x00, 0x08, 0x09, 0x0A, 0x0C, 0x0D, 0x1F, 0x20, b'"', b'\\', b'/', b'{', b'}', b'[', b']', b',', b':', b'-', b'+', b'.', b'0',
-    b'1', b'9', b'e', b'E', b't', b'n', b'u', 0x7F, 0x80, 0x8F, 0x90, 0x9F, 0xA0, 0xBF, 0xC0, 0xC3, 0xE0, 0xED, 0xF4,
+    0x00, 0x08, 0x09, 0x0A, 0x0C, 0x0D, 0x1F, 0x20, b'"', b'\\', b'/', b'{', b'}', b'[', b']',
+    b',', b':', b'-', b'+', b'.', b'0', b'1', b'9', b'e', b'E', b't', b'n', b'u', 0x7F, 0x80, 0x8F,
+    0x90, 0x9F, 0xA0, 0xBF, 0xC0, 0xC3, 0xE0, 0xED, 0xF4,
 ];
 
 pub fn random_export(prng: &mut Prng) -> Export {
@@ -56,7 +71,8 @@ fn random_room(prng: &mut Prng, text: &[u8], names: &[u8]) -> usize {
 // ---- names
 
 fn random_names(prng: &mut Prng) -> Vec<Vec<u8>> {
-    let count = prng.weighted(&[(2, 0), (6, 3), (4, 8), (1, 40), (1, 247), (1, 248), (1, 249), (1, 260)]);
+    let count =
+        prng.weighted(&[(2, 0), (6, 3), (4, 8), (1, 40), (1, 247), (1, 248), (1, 249), (1, 260)]);
     (0..count).map(|_| random_name(prng)).collect()
 }
 
@@ -73,7 +89,8 @@ fn random_name(prng: &mut Prng) -> Vec<u8> {
 
 /// A length byte for each; sometimes the list is cut short, or a length is wrong.
 fn listed(prng: &mut Prng, names: &[Vec<u8>]) -> Vec<u8> {
-    let mut list: Vec<u8> = names.iter().flat_map(|name| [vec![name.len() as u8], name.clone()].concat()).collect();
+    let mut list: Vec<u8> =
+        names.iter().flat_map(|name| [vec![name.len() as u8], name.clone()].concat()).collect();
     if prng.chance(6) && !list.is_empty() {
         list.truncate(prng.below(list.len()));
     }
@@ -149,7 +166,15 @@ impl Writer<'_> {
     fn value(&mut self, depth: usize) {
         self.left = self.left.saturating_sub(1);
         let containers = if self.left == 0 || depth > 20 { 1 } else { 8 };
-        match self.prng.weighted(&[(3, 0), (3, 1), (1, 2), (1, 3), (1, 4), (containers, 5), (containers, 6)]) {
+        match self.prng.weighted(&[
+            (3, 0),
+            (3, 1),
+            (1, 2),
+            (1, 3),
+            (1, 4),
+            (containers, 5),
+            (containers, 6),
+        ]) {
             0 => self.string(),
             1 => self.number(),
             2 => self.put(b"true"),
@@ -264,7 +289,18 @@ impl Writer<'_> {
                 self.unit(unit);
             }
             1 => {
-                let c = self.prng.pick(&['\u{7F}', '\u{80}', '\u{7FF}', '\u{800}', '\u{FFFF}', '\u{10000}', '\u{10FFFF}', '\u{D7FF}', '\u{E000}', '\0']);
+                let c = self.prng.pick(&[
+                    '\u{7F}',
+                    '\u{80}',
+                    '\u{7FF}',
+                    '\u{800}',
+                    '\u{FFFF}',
+                    '\u{10000}',
+                    '\u{10FFFF}',
+                    '\u{D7FF}',
+                    '\u{E000}',
+                    '\0',
+                ]);
                 self.spelled(c);
             }
             2 => {
@@ -296,7 +332,8 @@ impl Writer<'_> {
     }
 
     fn unit(&mut self, unit: u16) {
-        let spelled = if self.prng.chance(50) { format!("\\u{unit:04x}") } else { format!("\\u{unit:04X}") };
+        let spelled =
+            if self.prng.chance(50) { format!("\\u{unit:04x}") } else { format!("\\u{unit:04X}") };
         self.put(spelled.as_bytes());
     }
 }
@@ -322,7 +359,8 @@ fn damage(prng: &mut Prng, text: &mut Vec<u8>) {
         }
         _ => {
             // just before an end, where a comma or a digit tells most
-            let ends: Vec<usize> = (0..text.len()).filter(|&i| matches!(text[i], b']' | b'}' | b'"')).collect();
+            let ends: Vec<usize> =
+                (0..text.len()).filter(|&i| matches!(text[i], b']' | b'}' | b'"')).collect();
             if !ends.is_empty() {
                 let end = prng.pick(&ends);
                 let wrong = prng.pick(&WRONG);
@@ -333,6 +371,26 @@ fn damage(prng: &mut Prng, text: &mut Vec<u8>) {
 }
 
 const WRONG: [&[u8]; 22] = [
-    b",", b"01", b"+1", b"1.", b".5", b"1e", b"\xC0\xAF", b"\xC1\xBF", b"\xE0\x80\x80", b"\xED\xA0\x80", b"\xF4\x90\x80\x80", b"\xF5", b"\x80",
-    b"\\x", b"\\u12G4", b"\x7F", b"\x0C", b" 0", b"NaN", b"'", b"\xE2\x82", b"//",
+    b",",
+    b"01",
+    b"+1",
+    b"1.",
+    b".5",
+    b"1e",
+    b"\xC0\xAF",
+    b"\xC1\xBF",
+    b"\xE0\x80\x80",
+    b"\xED\xA0\x80",
+    b"\xF4\x90\x80\x80",
+    b"\xF5",
+    b"\x80",
+    b"\\x",
+    b"\\u12G4",
+    b"\x7F",
+    b"\x0C",
+    b" 0",
+    b"NaN",
+    b"'",
+    b"\xE2\x82",
+    b"//",
 ];

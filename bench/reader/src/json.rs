@@ -115,7 +115,12 @@ pub fn import(text: &[u8], names: &[u8], events: &mut [u16]) -> Result<u64, Refu
 }
 
 /// The same, with a mistake built in.
-pub fn import_with(slip: Option<Slip>, text: &[u8], names: &[u8], events: &mut [u16]) -> Result<u64, Refusal> {
+pub fn import_with(
+    slip: Option<Slip>,
+    text: &[u8],
+    names: &[u8],
+    events: &mut [u16],
+) -> Result<u64, Refusal> {
     if slip == Some(Slip::NamesAfterText) {
         Text::new(text, slip).document().map_err(|(refusal, _)| refusal)?;
     }
@@ -182,13 +187,16 @@ fn split_names(mut list: &[u8], slip: Option<Slip>) -> Result<Vec<&[u8]>, Refusa
 fn letter(key: &Key, names: &[&[u8]], slip: Option<Slip>) -> u16 {
     let spelled = match slip {
         Some(Slip::KeysBeforeEscapes) => Some(key.raw.clone()),
-        Some(Slip::LoneSurrogateReplaced) => Some(String::from_utf16_lossy(&key.units).into_bytes()),
+        Some(Slip::LoneSurrogateReplaced) => {
+            Some(String::from_utf16_lossy(&key.units).into_bytes())
+        }
         Some(Slip::LoneSurrogateAsThreeBytes) => Some(loosely(&key.units, true)),
         Some(Slip::PairsNotJoined) => Some(loosely(&key.units, false)),
         _ => String::from_utf16(&key.units).ok().map(String::into_bytes),
     };
     let equal = |name: &&[u8]| {
-        spelled.as_deref() == Some(*name) && !(slip == Some(Slip::EmptyNameNever) && name.is_empty())
+        spelled.as_deref() == Some(*name)
+            && !(slip == Some(Slip::EmptyNameNever) && name.is_empty())
     };
     let index = match slip {
         Some(Slip::LastEqualName) => names.iter().rposition(equal),
@@ -305,7 +313,9 @@ impl<'a> Text<'a> {
 
     fn fail_at<T>(&self, place: usize) -> Read<T> {
         let late = usize::from(self.slips(Slip::PlaceLate) && place < self.bytes.len());
-        let back = usize::from(self.slips(Slip::EarlyEndOnePlaceBack) && place == self.bytes.len() && place > 0);
+        let back = usize::from(
+            self.slips(Slip::EarlyEndOnePlaceBack) && place == self.bytes.len() && place > 0,
+        );
         Err(Refusal::new(NOT_JSON, (place + late - back) as u64))
     }
 
@@ -394,7 +404,9 @@ impl<'a> Text<'a> {
 
     fn number(&mut self) -> Read<Value> {
         self.take('-');
-        if !self.take('0') || self.slips(Slip::LeadingZero) && self.peek().is_some_and(|c| c.is_ascii_digit()) {
+        if !self.take('0')
+            || self.slips(Slip::LeadingZero) && self.peek().is_some_and(|c| c.is_ascii_digit())
+        {
             self.digits()?;
         }
         if self.take('.') && !(self.slips(Slip::PointAtTheEnd) && self.peek().is_none()) {
@@ -542,7 +554,9 @@ impl<'a> Text<'a> {
             let digit = self.peek().and_then(|c| c.to_digit(16));
             let capital = self.peek().is_some_and(|c| c.is_ascii_uppercase());
             match digit {
-                Some(digit) if !(capital && self.slips(Slip::CapitalHexRefused)) => unit = unit * 16 + digit as u16,
+                Some(digit) if !(capital && self.slips(Slip::CapitalHexRefused)) => {
+                    unit = unit * 16 + digit as u16
+                }
                 _ => return self.fail(),
             }
             self.next += 1;

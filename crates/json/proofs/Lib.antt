@@ -9,9 +9,12 @@
 --     of each table, what completes a text after a byte completes it, with the byte, before (Rows has the laws of tables).
 --   Beginnings: so a byte is taken exactly if a text can go on with it, whatever the limit of open containers.
 --   Judging, OneJudgement, ImportSays: so the reader's answer, its places too, is the grammar's, and the grammar has one.
--- Of the program: TableSays compares its tables with the reader's; CodesSay, TopsSay and Held are what one byte by value needs; CountsRead
--- says that counting is reading without the events; CheckOn and RunOn are the first pass, BlockOn and BlockRuns its blocks, NamesOn the list of names; SpellsKey
--- says that a key may be spelled from its first piece to its last.
+-- Of the program: TableSays compares its tables with the reader's; CodesSay, TopsSay and Held are what one byte by value needs.
+-- The second pass lays events down by the shape of a byte and the bytes of the key last begun (`layFrom`): KeysHeard says that this is
+-- what the reader answers, and CountsRead that the first pass counts it. Both go over RunOn, BlockOn and BlockRuns, a run of bytes that
+-- only lead on; CheckOn is a turn of the first pass, EventsSay and LayOn one of the second. Of keys: PieceLaws are their pieces, SpellsKey and SpellLaws the
+-- spelling, NamesOn and NamesPassed the list of names. ImportOn joins both passes, ImportSays the import and the grammar, and
+-- ReadsImported the import and a reading by the calls.
 pub mod Rows
 pub mod ToTheEnd
 pub mod Spaces
