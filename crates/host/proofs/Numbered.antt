@@ -197,7 +197,7 @@ names-numbered cutShort = isRefused {number = 30} (omega arith)
 
 is-numbered : {A : Type 0} {x : Answer A} {number place : ℕ} → Numbered x → x ≡ refused number place → 0 < number
 is-numbered isGiven e = let z : _≡_ {A = ℕ} 0 1 = cc in absurd (omega arith)
-is-numbered (isRefused {number} h) e = let same : number ≡ _ = cc in omega arith
+is-numbered {number = n} (isRefused {number} h) e = let same : number ≡ n = cc in omega arith
 
 judged-numbered : {list : List (List ℕ)} {text : List ℕ} {a : Answer (List ℕ)} → Judged list text a → Numbered a
 judged-numbered (isText whole) = isGiven

@@ -9,9 +9,6 @@ use Rattle.host.proofs.answers.lay_imported.Tie as tie
 enum-known-imported : tie.Need-enum-known-imported
 enum-known-imported c = search needs
 
-cast-lay-count : tie.Need-cast-lay-count
-cast-lay-count c = search needs
-
 lay-count-requires : tie.Need-lay-count-requires
 lay-count-requires c κs = search needs
 
@@ -40,7 +37,6 @@ lay-imported-spec =
     tie.close
     (tie.spec
     enum-known-imported
-    cast-lay-count
     lay-count-requires
     enum-known-imported-2
     lay-refusal-requires
