@@ -157,7 +157,12 @@ pub extern "C" fn venticapro_read_document(
 
 // The import of a JSON text: the count of events, which lie in the front of the slice lent.
 #[no_mangle]
-pub extern "C" fn venticapro_json(text: &[u8], names: &[u8], events: &mut [u16], answer: &mut [u64]) -> bool
+pub extern "C" fn venticapro_json(
+    text: &[u8],
+    names: &[u8],
+    events: &mut [u16],
+    answer: &mut [u64],
+) -> bool
     ensures { λ r. ⌜ Laid (answerNumbers countValue (imported (now (text .entry)) (now (names .entry)) (now (events .entry)) .answer)) (now (answer .entry)) r (now (answer .exit)) ⌝ }
     ensures { λ _. ⌜ now (events .exit) ≡ imported (now (text .entry)) (now (names .entry)) (now (events .entry)) .slice ⌝ }
 {

@@ -23,11 +23,13 @@ const KEY_ENDS: u8 = 64;
 
 const LAST_CODE: u8 = 64;
 
-// The events of those codes: the first of each, and the second.
-const FIRSTS: [u16; 16] = [0, 5, 5, 5, 4, 0, 6, 7, 8, 0, 0, 1, 1, 1, 1, 0];
+fn wide(event: u8) -> u16
+    ensures { λ r. ⌜ r ≡ event ⌝ }
+{
+    event as u16
+}
 
-const SECONDS: [u16; 16] = [0, 0, 0, 0, 0, 0, 0, 0, 0, 2, 3, 0, 0, 1, 0, 0];
-
+// The events of those codes, the first of each.
 fn first_event(code: u8) -> u16
     ensures { λ r. ⌜ r ≡ getD firsts (code - 49) 0 ⌝ }
 {
@@ -37,9 +39,11 @@ fn first_event(code: u8) -> u16
     if LAST_CODE < code {
         return 0;
     }
-    FIRSTS[(code - FIRST_CODE) as usize]
+    let firsts = b"\x00\x05\x05\x05\x04\x00\x06\x07\x08\x00\x00\x01\x01\x01\x01\x00";
+    wide(firsts[(code - FIRST_CODE) as usize])
 }
 
+// The second of each.
 fn listed_second(code: u8) -> u16
     ensures { λ r. ⌜ r ≡ getD seconds (code - 49) 0 ⌝ }
 {
@@ -49,7 +53,8 @@ fn listed_second(code: u8) -> u16
     if LAST_CODE < code {
         return 0;
     }
-    SECONDS[(code - FIRST_CODE) as usize]
+    let seconds = b"\x00\x00\x00\x00\x00\x00\x00\x00\x00\x02\x03\x00\x00\x01\x00\x00";
+    wide(seconds[(code - FIRST_CODE) as usize])
 }
 
 // The event of the letter of the key that begins at a place.

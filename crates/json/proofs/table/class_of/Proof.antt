@@ -5,12 +5,12 @@ use Rattle.json.specs.Codes.{classes}
 use Rattle.json.proofs.table.class_of.Statement.{statement}
 use Rattle.json.proofs.table.class_of.Tie as tie
 
-array-read-result : tie.Need-array-read-result
-array-read-result c = search needs
+element-copy-out-result : tie.Need-element-copy-out-result
+element-copy-out-result c = search needs
 
 returns : tie.Need-returns
 unfolding classes
 returns c = refl
 
 pub class-of-spec : {M : Type 1} → statement M
-class-of-spec = tie.close (tie.spec array-read-result returns)
+class-of-spec = tie.close (tie.spec element-copy-out-result returns)

@@ -11,12 +11,12 @@ mul-result c = search needs
 add-result : tie.Need-add-result
 add-result c = search needs
 
-array-read-result : tie.Need-array-read-result
-array-read-result c = search needs
+element-copy-out-result : tie.Need-element-copy-out-result
+element-copy-out-result c = search needs
 
 returns : tie.Need-returns
 unfolding codes
 returns c = refl
 
 pub code-at-spec : {M : Type 1} → statement M
-code-at-spec = tie.close (tie.spec mul-result add-result array-read-result returns)
+code-at-spec = tie.close (tie.spec mul-result add-result element-copy-out-result returns)
