@@ -1,5 +1,5 @@
 #!/usr/bin/env python3
-"""The program's tables, made anew: writes the lists of specs/Codes.antt and the byte strings of src/table.rt.
+"""The program's tables, made anew: writes the lists of specs/Codes.antt and the arrays of src/table.rt.
 
 It has the reader's tables (specs/Reader.antt) once more, as rows of first byte, last byte and code, and finds the classes of bytes
 that do the same everywhere. Nothing rests on it: that the lists say what the reader's tables say is proved (proofs/TableSays.antt).
@@ -77,8 +77,8 @@ with open("specs/Codes.antt", "w", encoding="utf-8") as file:
 with open("src/table.rt", encoding="utf-8") as file:
     text = file.read()
 for name, (xs, width) in lists.items():
-    body = f'let {name} = b"' + "".join(f"\\x{x:02x}" for x in xs) + '";'
-    text = re.sub(rf'(?s)let {name} = b".*?";', lambda m: body, text)
+    body = f"const {name.upper()}: [u8; {len(xs)}] = [\n    " + ", ".join(map(str, xs)) + ",\n];"
+    text = re.sub(rf"(?s)const {name.upper()}: \[u8; \d+\] = \[.*?\];", lambda m: body, text)
 with open("src/table.rt", "w", encoding="utf-8") as file:
     file.write(text)
 print(len(modes), "places,", len(classes), "classes")

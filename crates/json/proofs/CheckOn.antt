@@ -9,11 +9,13 @@ use native.Mathlib.Omega.{arith}
 use lib.ListN.{length, getD, drop}
 use lib.Seq.{drop-cons}
 use Rattle.meaning.specs.Answers.{Answer, given, refused, _giving_, if_then_else_}
-use Rattle.json.specs.Reader.{value, gap, moveAt, mayEnd}
-use Rattle.json.specs.Shapes.{within, wordPlaces, places, placeAt, shapeOf, Count, onTo, noText, tooMany, shapeCount, adding, onCount, countFrom}
+use Rattle.json.specs.Reader.{value, gap, topOf, moveAt, mayEnd}
+use Rattle.json.specs.Codes.{classes, codes}
+use Rattle.json.specs.Shapes.{within, wordPlaces, places, placeAt, shapeOf, shapeAt, Count, onTo, noText, tooMany, shapeCount, adding, onCount, countFrom}
 use Rattle.json.specs.Standings.{kindsOf, kindsIn, Stands, GoodTurn, goodOn, turnSays}
 use Rattle.json.specs.Running.{Runs}
 use Rattle.json.specs.Checking.{Checks}
+use Rattle.json.proofs.TableSays.{code-of-says}
 use Rattle.json.proofs.LayLaws.{drop-all}
 use Rattle.json.proofs.CountsRead.{counting, counts-laid}
 use Rattle.json.specs.declared.Standing.{Standing}
@@ -67,6 +69,15 @@ module _ {text : List ℕ} {at : Standing} {count i : ℕ} (so : Checks text at 
   unfolding countFrom turned
   comes-by h =
       so .comes ∙ ap (λ (l : List ℕ). adding count (countFrom 64 i (placeAt (at .place)) (kindsIn at) l)) (drop-cons text i 0 h)
+
+  -- the code that is found for the byte says it
+  pub by-table : (b code : ℕ) → b < 256 → b ≡ getD text i 0 → code ≡ getD codes (at .place * 40 + getD classes b 0) 0 → (t : Turn)
+      → turnSays t ≡ shapeCount 64 (kindsIn at) (shapeAt (topOf (kindsIn at)) code) → turnSays t ≡ byteSays
+  by-table b code l is found t said =
+      said
+      ∙ sym
+      (ap (λ (x : ℕ). shapeCount 64 (kindsIn at) (shapeOf (moveAt (placeAt (at .place)) (kindsIn at) x))) (sym is)
+      ∙ ap (shapeCount 64 (kindsIn at)) (code-of-says (kindsIn at) (at .place) b code (so .stands .placed) l found))
 
   pub goes-on : (next : Standing) (events : ℕ) → i < length text → turnSays (turn.On next events) ≡ byteSays → GoodTurn (turn.On next events)
       → Checks text next (count + events) (i + 1)

@@ -2,7 +2,7 @@
 use mathlib.Core.Path.{_≡_, refl, sym, ap, _∙_}
 use mathlib.Core.Bool.{Bool, true, false, _&&_}
 use mathlib.Core.List.{List, [], _∷_, _++_}
-use Prim.Native.Nat.{ℕ, zero, suc, _≤_, _<_}
+use Prim.Native.Nat.{ℕ, zero, suc, _+_, _*_, _≤_, _<_}
 use native.Mathlib.Omega.{arith}
 use lib.ListN.{length, getD}
 use borrow.Author.Tests.{ltb-true, eqb-true, eqb-false, eq-eqb, ne-eqb}
@@ -10,7 +10,7 @@ use Rattle.meaning.specs.Answers.{_<?_, _=?_, if_then_else_}
 use Rattle.meaning.proofs.laws.Answered.{and-true}
 use Rattle.meaning.proofs.laws.Truths.{by-cases}
 use Rattle.json.specs.Reader.{Kind, value, member, colon, after, Mode, gap, number, string, word, Top, mayEnd, numberEnds}
-use Rattle.json.specs.Codes.{classes, ends}
+use Rattle.json.specs.Codes.{classes, codes, ends, Tables}
 use Rattle.json.specs.Shapes.{Shape, stopped, onward, within, wordPlaces, places, placeAt, otherShapes, onwardTo, shapeAt, Count, noText, shapeCount}
 use Rattle.json.specs.Standings.{kindsOf}
 
@@ -56,6 +56,16 @@ few-at (c ∷ cs) (suc k) e = let both = and-true (c <? 40) (allFew cs) e in few
 pub class-few : (b : ℕ) → getD classes b 0 < 40
 unfolding classes allFew
 class-few b = few-at classes b refl
+
+-- what is looked up in the tables that are lent
+pub lent-class : {bytes table : List ℕ} → Tables bytes table → (b : ℕ) → getD bytes b 0 < 40
+lent-class so b = rw (so .bytesAre) (class-few b)
+
+pub lent-code : {bytes table : List ℕ} → Tables bytes table → (place b : ℕ)
+    → getD table (place * 40 + getD bytes b 0) 0 ≡ getD codes (place * 40 + getD classes b 0) 0
+lent-code {bytes} so place b =
+    ap (λ (l : List ℕ). getD l (place * 40 + getD bytes b 0) 0) (so .tableIs)
+    ∙ ap (λ (l : List ℕ). getD codes (place * 40 + getD l b 0) 0) (so .bytesAre)
 
 -- ---- no code
 

@@ -128,3 +128,8 @@ unfolding moveAt
 code-says ks place b class code h l e d =
     says (topOf ks) place b h l
     ∙ ap (shapeAt (topOf ks)) (ap (λ (c : ℕ). getD codes (place * 40 + c) 0) (sym e) ∙ sym d)
+
+-- the same of the code that is found for a byte
+pub code-of-says : (ks : List Kind) (place b code : ℕ) → place < 49 → b < 256 → code ≡ getD codes (place * 40 + getD classes b 0) 0
+    → shapeOf (moveAt (placeAt place) ks b) ≡ shapeAt (topOf ks) code
+code-of-says ks place b code h l d = code-says ks place b (getD classes b 0) code h l refl d

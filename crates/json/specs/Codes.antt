@@ -1,6 +1,7 @@
 -- The tables of the program: the class of each byte, and for each place in a text and each class a code of what such a byte does
 -- there. That they say what the reader's tables say is proved (proofs/TableSays.antt).
 use Prim.Native.Nat.{ℕ}
+use mathlib.Core.Path.{_≡_}
 use mathlib.Core.List.{List, [], _∷_}
 
 -- bytes of one class do the same everywhere
@@ -72,3 +73,8 @@ codes =
 unfoldable pub ends : List ℕ
 ends =
     0 ∷ 0 ∷ 0 ∷ 0 ∷ 0 ∷ 1 ∷ 0 ∷ 1 ∷ 1 ∷ 0 ∷ 1 ∷ 0 ∷ 0 ∷ 1 ∷ 0 ∷ 0 ∷ 0 ∷ 0 ∷ 0 ∷ 0 ∷ 0 ∷ 0 ∷ 0 ∷ 0 ∷ 0 ∷ 0 ∷ 0 ∷ 0 ∷ 0 ∷ 0 ∷ 0 ∷ 0 ∷ 0 ∷ 0 ∷ 0 ∷ 0 ∷ 0 ∷ 0 ∷ 0 ∷ 0 ∷ 0 ∷ 0 ∷ 0 ∷ 0 ∷ 0 ∷ 0 ∷ 0 ∷ 0 ∷ 0 ∷ []
+
+-- what is lent are these tables
+pub record Tables (bytes table : List ℕ) : Type 0 where
+  pub bytesAre : bytes ≡ classes
+  pub tableIs : table ≡ codes

@@ -11,6 +11,7 @@ ghost use mathlib.Core.List.{[]};
 ghost use mathlib.Core.Bool.{false};
 ghost use Rattle.meaning.specs.Answers.{given, refused, if_then_else_};
 ghost use Rattle.json.specs.Reader.{value, gap, mayEnd};
+ghost use Rattle.json.specs.Codes.{Tables};
 ghost use Rattle.json.specs.Shapes.{placeAt, countFrom};
 ghost use Rattle.json.specs.Standings.{kindsIn, Stands};
 ghost use Rattle.json.specs.Says.{importSays};
@@ -44,7 +45,8 @@ fn ended(at: Standing, count: usize, place: usize) -> Imported
 }
 
 // A run of bytes that only lead on, and then one that does more, until the text ends or is refused.
-pub fn check(text: &[u8]) -> Imported
+pub fn check(text: &[u8], bytes: &[u8; 256], table: &[u8; 1960]) -> Imported
+    requires { ⌜ Tables (now bytes) (now table) ⌝ }
     ensures { λ r. ⌜ importSays r ≡ countFrom 64 0 (gap (value false)) [] (now (text .entry)) ⌝ }
 {
     let mut at = Standing {
@@ -55,7 +57,7 @@ pub fn check(text: &[u8]) -> Imported
     let mut count: usize = 0;
     let mut i = 0;
     loop {
-        let ran = running::run(text, i, at.place);
+        let ran = running::run(text, i, at.place, bytes, table);
         let next = ran.next;
         let here = Standing {
             place: ran.place,
@@ -65,7 +67,8 @@ pub fn check(text: &[u8]) -> Imported
         if text.len() <= next {
             return ended(here, count, next);
         }
-        match turns::turn(here, text[next]) {
+        let code = table::code_of(bytes, table, here.place, text[next]);
+        match turns::turn_of(here, code) {
             Turn::On(after, events) => {
                 at = after;
                 count += events as usize;

@@ -11,6 +11,7 @@ ghost use mathlib.Core.List.{_++_};
 ghost use Prim.Native.Nat.{_+_, _-_, _≤_};
 ghost use lib.ListN.{length, getD, take, drop};
 ghost use Rattle.meaning.specs.Answers.{_=?_, if_then_else_};
+ghost use Rattle.json.specs.Codes.{Tables};
 ghost use Rattle.json.specs.Naming.{namesIn, WholeNames};
 ghost use Rattle.json.specs.Laying.{keyEvent, firsts, seconds, secondEvent, firstOf, laidText, laidOver, HasRoom};
 
@@ -101,8 +102,15 @@ fn put(events: &mut [u16], place: usize, n: u8, first: u16, second: u16)
 }
 
 // The events of the text, into the front of the slice.
-pub fn lay(text: &[u8], list: &[u8], key: &mut [u8], events: &mut [u16])
-    requires { ⌜ HasRoom (now text) (now list) (now events) ⌝ ∗ ⌜ WholeNames (now list) ⌝ ∗ ⌜ length (namesIn (now list)) ≤ 248 ⌝ ∗ ⌜ length (now key) ≡ 260 ⌝ }
+pub fn lay(
+    text: &[u8],
+    list: &[u8],
+    key: &mut [u8],
+    events: &mut [u16],
+    bytes: &[u8; 256],
+    table: &[u8; 1960],
+)
+    requires { ⌜ HasRoom (now text) (now list) (now events) ⌝ ∗ ⌜ Tables (now bytes) (now table) ⌝ ∗ ⌜ WholeNames (now list) ⌝ ∗ ⌜ length (namesIn (now list)) ≤ 248 ⌝ ∗ ⌜ length (now key) ≡ 260 ⌝ }
     ensures { λ r. ⌜ now (events .exit) ≡ laidOver (laidText (now (list .entry)) (now (text .entry))) (now (events .entry)) ⌝ }
 {
     let mut at = Standing {
@@ -114,7 +122,7 @@ pub fn lay(text: &[u8], list: &[u8], key: &mut [u8], events: &mut [u16])
     let mut begun: usize = 0;
     let mut i = 0;
     loop {
-        let ran = running::run(text, i, at.place);
+        let ran = running::run(text, i, at.place, bytes, table);
         let next = ran.next;
         let here = Standing {
             place: ran.place,
@@ -124,7 +132,7 @@ pub fn lay(text: &[u8], list: &[u8], key: &mut [u8], events: &mut [u16])
         if text.len() <= next {
             return;
         }
-        let code = table::code_at(here.place, table::class_of(text[next]));
+        let code = table::code_of(bytes, table, here.place, text[next]);
         let second = second_event(text, begun, list, key, code);
         match turns::turn_of(here, code) {
             Turn::On(after, n) => {

@@ -16,6 +16,7 @@ ghost use mathlib.Core.Bool.{false};
 ghost use lib.ListN.{length};
 ghost use Rattle.meaning.specs.Answers.{given};
 ghost use Rattle.json.specs.Reader.{value, gap, readText};
+ghost use Rattle.json.specs.Codes.{Tables};
 ghost use Rattle.json.specs.Shapes.{countFrom};
 ghost use Rattle.json.specs.Naming.{namesIn, ListedNames};
 ghost use Rattle.json.specs.Says.{importSays};
@@ -77,8 +78,15 @@ fn key_room() -> [u8; 260]
 }
 
 // The events of a good text, of which there are so many, if the slice has room for them.
-fn lay_down(text: &[u8], names: &[u8], events: &mut [u16], count: usize) -> Imported
-    requires { ⌜ ListedNames (now names) ⌝ ∗ ⌜ given count ≡ countFrom 64 0 (gap (value false)) [] (now text) ⌝ }
+fn lay_down(
+    text: &[u8],
+    names: &[u8],
+    events: &mut [u16],
+    count: usize,
+    bytes: &[u8; 256],
+    table: &[u8; 1960],
+) -> Imported
+    requires { ⌜ ListedNames (now names) ⌝ ∗ ⌜ Tables (now bytes) (now table) ⌝ ∗ ⌜ given count ≡ countFrom 64 0 (gap (value false)) [] (now text) ⌝ }
     ensures says { λ r. ⌜ importSays r ≡ layDown (now (events .entry)) (readText (namesIn (now (names .entry))) (now (text .entry))) .answer ⌝ }
     ensures slice { λ r. ⌜ now (events .exit) ≡ layDown (now (events .entry)) (readText (namesIn (now (names .entry))) (now (text .entry))) .slice ⌝ }
 {
@@ -86,7 +94,7 @@ fn lay_down(text: &[u8], names: &[u8], events: &mut [u16], count: usize) -> Impo
         return checking::refuse(22, count);
     }
     let mut key = key_room();
-    laying::lay(text, names, &mut key, events);
+    laying::lay(text, names, &mut key, events, bytes, table);
     Imported::Events(count)
 }
 
@@ -96,9 +104,11 @@ fn import_with(text: &[u8], names: &[u8], events: &mut [u16]) -> Imported
     ensures says { λ r. ⌜ importSays r ≡ layDown (now (events .entry)) (readText (namesIn (now (names .entry))) (now (text .entry))) .answer ⌝ }
     ensures slice { λ r. ⌜ now (events .exit) ≡ layDown (now (events .entry)) (readText (namesIn (now (names .entry))) (now (text .entry))) .slice ⌝ }
 {
-    match checking::check(text) {
+    let bytes = table::byte_classes();
+    let table = table::place_codes();
+    match checking::check(text, &bytes, &table) {
         Imported::Refused(refusal) => Imported::Refused(refusal),
-        Imported::Events(count) => lay_down(text, names, events, count),
+        Imported::Events(count) => lay_down(text, names, events, count, &bytes, &table),
     }
 }
 

@@ -7,17 +7,18 @@ ghost use mathlib.Core.Path.{_≡_};
 ghost use mathlib.Core.List.{List};
 ghost use Prim.Native.Nat.{_≤_, _<_};
 ghost use lib.ListN.{length};
+ghost use Rattle.json.specs.Codes.{Tables};
 ghost use Rattle.json.specs.Running.{Runs};
 
 // Byte by byte from a place in the text on, up to the first byte that does more, or the end.
-fn walk(text: &[u8], from: usize, place: u8) -> Ran
-    requires { ⌜ from ≤ length (now text) ⌝ ∗ ⌜ place < 49 ⌝ }
+fn walk(text: &[u8], from: usize, place: u8, bytes: &[u8; 256], table: &[u8; 1960]) -> Ran
+    requires { ⌜ from ≤ length (now text) ⌝ ∗ ⌜ place < 49 ⌝ ∗ ⌜ Tables (now bytes) (now table) ⌝ }
     ensures { λ r. ⌜ Runs (now (text .entry)) from place (r .next) (r .place) ⌝ }
 {
     let mut next = from;
     let mut here = place;
     while next < text.len() {
-        let code = table::code_at(here, table::class_of(text[next]));
+        let code = table::code_of(bytes, table, here, text[next]);
         if table::PLACES <= code {
             return Ran { next, place: here };
         }
@@ -47,10 +48,10 @@ fn plain_run(text: &[u8], from: usize, place: u8) -> usize
 }
 
 // The same, by blocks where it can.
-pub fn run(text: &[u8], from: usize, place: u8) -> Ran
-    requires { ⌜ from ≤ length (now text) ⌝ ∗ ⌜ place < 49 ⌝ }
+pub fn run(text: &[u8], from: usize, place: u8, bytes: &[u8; 256], table: &[u8; 1960]) -> Ran
+    requires { ⌜ from ≤ length (now text) ⌝ ∗ ⌜ place < 49 ⌝ ∗ ⌜ Tables (now bytes) (now table) ⌝ }
     ensures { λ r. ⌜ Runs (now (text .entry)) from place (r .next) (r .place) ⌝ }
 {
     let next = plain_run(text, from, place);
-    walk(text, next, place)
+    walk(text, next, place, bytes, table)
 }

@@ -6,8 +6,8 @@ use crate::table;
 ghost use mathlib.Core.Path.{_≡_};
 ghost use lib.ListN.{replicate};
 ghost use Prim.Native.Nat.{_≤_, _<_};
-ghost use Rattle.json.specs.Reader.{topOf, outer, gap, after, moveAt};
-ghost use Rattle.json.specs.Shapes.{shapeOf, placeAt, shapeAt, commaShape, arrayEndShape, objectEndShape, onTo, openedTo, shapeCount};
+ghost use Rattle.json.specs.Reader.{topOf, outer, gap, after};
+ghost use Rattle.json.specs.Shapes.{placeAt, shapeAt, commaShape, arrayEndShape, objectEndShape, onTo, openedTo, shapeCount};
 ghost use Rattle.json.specs.Standings.{kindAt, kindsIn, topNumber, Stands, GoodTurn, turnSays};
 
 // How many containers may be open at once.
@@ -167,13 +167,4 @@ pub fn turn_of(at: Standing, code: u8) -> Turn
         return on(at, code, 0);
     }
     other(at, code)
-}
-
-// One byte.
-pub fn turn(at: Standing, b: u8) -> Turn
-    requires { ⌜ Stands at ⌝ }
-    ensures says { λ r. ⌜ turnSays r ≡ shapeCount 64 (kindsIn at) (shapeOf (moveAt (placeAt (at .place)) (kindsIn at) b)) ⌝ }
-    ensures good { λ r. ⌜ GoodTurn r ⌝ }
-{
-    turn_of(at, table::code_at(at.place, table::class_of(b)))
 }

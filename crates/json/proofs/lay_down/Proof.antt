@@ -18,7 +18,7 @@ refuse-requires c κs = search needs
 returns : tie.Need-returns
 returns c =
     let a = c .before .before .before .before .before .args in
-    let so = text-too-long (namesIn (now (a .names))) (now (a .text)) (now (a .events)) (a .count) (c .before .before .before .before .before .pre .1) (c .before .if1 .taken) in
+    let so = text-too-long (namesIn (now (a .names))) (now (a .text)) (now (a .events)) (a .count) (c .before .before .before .before .before .pre .1 .1) (c .before .if1 .taken) in
     (c .refuse .ensures ∙ so .0, so .1)
 
 key-room-requires : tie.Need-key-room-requires
@@ -28,7 +28,7 @@ slice-aggregate-lay : tie.Need-slice-aggregate-lay
 slice-aggregate-lay c = search needs
 
 lay-requires : tie.Need-lay-requires
-lay-requires c κs = (has-room _ _ _ _ (c .before .before .before .before .before .before .before .pre .1) (c .before .before .before .if1 .left), (c .before .before .before .before .before .before .before .pre .0 .whole, (c .before .before .before .before .before .before .before .pre .0 .few, c .before .before .key-room .ensures)))
+lay-requires c κs = (has-room _ _ _ _ (c .before .before .before .before .before .before .before .pre .1 .1) (c .before .before .before .if1 .left), (c .before .before .before .before .before .before .before .pre .1 .0, (c .before .before .before .before .before .before .before .pre .0 .whole, (c .before .before .before .before .before .before .before .pre .0 .few, c .before .before .key-room .ensures))))
 
 same-length : tie.Need-same-length
 same-length c = search needs
@@ -37,7 +37,7 @@ returns-2 : tie.Need-returns-2
 unfolding importSays
 returns-2 c =
     let a = c .before .before .before .before .before .before .before .before .before .before .before .args in
-    text-laid (namesIn (now (a .names))) (now (a .text)) (now (a .events)) (a .count) (c .before .before .before .before .before .before .before .before .before .before .before .pre .1) _ (c .before .before .before .before .before .before .before .if1 .left)
+    text-laid (namesIn (now (a .names))) (now (a .text)) (now (a .events)) (a .count) (c .before .before .before .before .before .before .before .before .before .before .before .pre .1 .1) _ (c .before .before .before .before .before .before .before .if1 .left)
     (c .before .before .before .lay .ensures ∙ ap (λ (x : Answer (List ℕ)). laidOver x (now (a .events))) (laid-read (now (a .names)) (now (a .text))))
 
 pub lay-down-spec : {M : Type 1} → statement M

@@ -4,7 +4,6 @@ use Prim.Native.Nat.{_-_}
 use lib.ListN.{length}
 use Rattle.json.specs.Standings.{GoodTurn, turnSays}
 use Rattle.json.specs.Laying.{Lays}
-use Rattle.json.proofs.CodesSay.{class-few}
 use Rattle.json.proofs.CheckOn.{few-events}
 use Rattle.json.proofs.LayOn.{lay-start, lay-runs, lay-no-text, lay-too-many, lay-room, lay-on, lay-end}
 use native.Mathlib.Omega.{arith}
@@ -12,20 +11,20 @@ use Rattle.json.proofs.laying.lay.Statement.{statement}
 use Rattle.json.proofs.laying.lay.Tie as tie
 
 abbrev Inv-loop : tie.InvT-loop
-Inv-loop text list key₀ events₀ at₀ count₀ begun₀ i₀ key events at count begun i =
+Inv-loop text list key₀ events₀ bytes table at₀ count₀ begun₀ i₀ key events at count begun i =
     (length key ≡ 260) × Lays text list events₀ events at count begun i
 
 abbrev μ-loop : tie.MeasureT-loop
-μ-loop text list key₀ events₀ at₀ count₀ begun₀ i₀ key events at count begun i = length text - i
+μ-loop text list key₀ events₀ bytes table at₀ count₀ begun₀ i₀ key events at count begun i = length text - i
 
 loop-holds : tie.Need-loop-holds Inv-loop μ-loop
-loop-holds c = (c .before .before .before .before .pre .1 .1 .1, lay-start _ _ _)
+loop-holds c = (c .before .before .before .before .pre .1 .1 .1 .1, lay-start _ _ _)
 
 run-requires : tie.Need-run-requires Inv-loop μ-loop
-run-requires c κs = (c .loop .inv .1 .within, c .loop .inv .1 .stands .placed)
+run-requires c κs = (c .loop .inv .1 .within, (c .loop .inv .1 .stands .placed, c .before .before .before .before .before .pre .1 .0))
 
 same-length : tie.Need-same-length Inv-loop μ-loop
-same-length c = omega (arith, c .before .before .loop .inv .0, c .before .before .before .before .before .before .before .pre .1 .1 .1)
+same-length c = omega (arith, c .before .before .loop .inv .0, c .before .before .before .before .before .before .before .pre .1 .1 .1 .1)
 
 same-length-2 : tie.Need-same-length-2 Inv-loop μ-loop
 same-length-2 c = c .before .before .loop .inv .1 .longAs
@@ -33,20 +32,17 @@ same-length-2 c = c .before .before .loop .inv .1 .longAs
 returns : tie.Need-returns Inv-loop μ-loop
 returns c = lay-end (lay-runs (c .before .before .loop .inv .1) (c .before .run .ensures)) (c .before .before .before .before .before .before .before .pre .0) (c .if1 .taken)
 
-shared-slice-read-class-of : tie.Need-shared-slice-read-class-of Inv-loop μ-loop
-shared-slice-read-class-of c = c .before .if1 .left
+shared-slice-read-code-of : tie.Need-shared-slice-read-code-of Inv-loop μ-loop
+shared-slice-read-code-of c = c .before .if1 .left
 
-class-of-requires : tie.Need-class-of-requires Inv-loop μ-loop
-class-of-requires c κs = tt
-
-code-at-requires : tie.Need-code-at-requires Inv-loop μ-loop
-code-at-requires c κs = (c .before .before .before .run .ensures .placed, rw (c .class-of .ensures) (class-few _))
+code-of-requires : tie.Need-code-of-requires Inv-loop μ-loop
+code-of-requires c κs = (c .before .before .before .before .before .before .before .before .pre .1 .0, c .before .before .run .ensures .placed)
 
 second-event-requires : tie.Need-second-event-requires Inv-loop μ-loop
-second-event-requires c κs = (c .before .before .before .before .before .before .loop .inv .1 .begunWithin, (c .before .before .before .before .before .before .before .before .before .before .before .pre .1 .0, (c .before .before .before .before .before .before .before .before .before .before .before .pre .1 .1 .0, c .before .before .before .before .before .before .loop .inv .0)))
+second-event-requires c κs = (c .before .before .before .before .before .loop .inv .1 .begunWithin, (c .before .before .before .before .before .before .before .before .before .before .pre .1 .1 .0, (c .before .before .before .before .before .before .before .before .before .before .pre .1 .1 .1 .0, c .before .before .before .before .before .loop .inv .0)))
 
 turn-of-requires : tie.Need-turn-of-requires Inv-loop μ-loop
-turn-of-requires c κs = (lay-runs (c .before .before .before .before .before .before .before .before .before .loop .inv .1) (c .before .before .before .before .before .before .before .before .run .ensures)) .stands
+turn-of-requires c κs = (lay-runs (c .before .before .before .before .before .before .before .before .loop .inv .1) (c .before .before .before .before .before .before .before .run .ensures)) .stands
 
 enum-known-after : tie.Need-enum-known-after Inv-loop μ-loop
 enum-known-after c = c .match .keys1
@@ -57,51 +53,51 @@ first-event-requires c κs = tt
 put-requires : tie.Need-put-requires Inv-loop μ-loop
 put-requires c κs =
     let held = few-events (subst GoodTurn (c .before .before .before .after .given .1) (c .before .before .before .before .before .turn-of .ensures .1)) in
-    (held .1, lay-room (lay-runs (c .before .before .before .before .before .before .before .before .before .before .before .before .before .before .before .loop .inv .1) (c .before .before .before .before .before .before .before .before .before .before .before .before .before .before .run .ensures)) (c .before .before .before .before .before .before .before .before .before .before .before .before .before .if1 .left) (c .before .before .before .before .before .before .before .before .before .before .code-at .result) (c .before .before .before .before .before .before .before .before .before .before .before .class-of .result) _ (omega (arith, c .before .before .before .before .before .before .before .before .before .before .before .before .shared-slice-known3 .given (c .before .before .before .before .before .before .before .before .before .before .before .before .before .before .run .result .next))) refl (c .before .before .before .before .before .before .before .before .before .before .before .class-of .ensures) (c .before .before .before .before .before .before .before .before .before .before .code-at .ensures) _ _ (ap turnSays (sym (c .before .before .before .after .given .1)) ∙ c .before .before .before .before .before .turn-of .ensures .0) (c .before .before .before .before .before .before .before .before .before .before .before .before .before .before .before .before .before .before .before .before .pre .0))
+    (held .1, lay-room (lay-runs (c .before .before .before .before .before .before .before .before .before .before .before .before .before .before .loop .inv .1) (c .before .before .before .before .before .before .before .before .before .before .before .before .before .run .ensures)) (c .before .before .before .before .before .before .before .before .before .before .before .before .if1 .left) (c .before .before .before .before .before .before .before .before .before .before .code-of .result) _ _ (omega (arith, c .before .before .before .before .before .before .before .before .before .before .before .shared-slice-known3 .given (c .before .before .before .before .before .before .before .before .before .before .before .before .before .run .result .next))) refl refl (c .before .before .before .before .before .before .before .before .before .before .code-of .ensures) _ _ (ap turnSays (sym (c .before .before .before .after .given .1)) ∙ c .before .before .before .before .before .turn-of .ensures .0) (c .before .before .before .before .before .before .before .before .before .before .before .before .before .before .before .before .before .before .before .pre .0))
 
 cast-count : tie.Need-cast-count Inv-loop μ-loop
 cast-count c = omega (arith, few-events (subst GoodTurn (c .before .before .before .before .before .before .after .given .1) (c .before .before .before .before .before .before .before .before .turn-of .ensures .1)) .1)
 
 add-count : tie.Need-add-count Inv-loop μ-loop
-add-count c = omega (arith, lay-room (lay-runs (c .before .before .before .before .before .before .before .before .before .before .before .before .before .before .before .before .before .before .loop .inv .1) (c .before .before .before .before .before .before .before .before .before .before .before .before .before .before .before .before .before .run .ensures)) (c .before .before .before .before .before .before .before .before .before .before .before .before .before .before .before .before .if1 .left) (c .before .before .before .before .before .before .before .before .before .before .before .before .before .code-at .result) (c .before .before .before .before .before .before .before .before .before .before .before .before .before .before .class-of .result) _ (omega (arith, c .before .before .before .before .before .before .before .before .before .before .before .before .before .before .before .shared-slice-known3 .given (c .before .before .before .before .before .before .before .before .before .before .before .before .before .before .before .before .before .run .result .next))) refl (c .before .before .before .before .before .before .before .before .before .before .before .before .before .before .class-of .ensures) (c .before .before .before .before .before .before .before .before .before .before .before .before .before .code-at .ensures) _ _ (ap turnSays (sym (c .before .before .before .before .before .before .after .given .1)) ∙ c .before .before .before .before .before .before .before .before .turn-of .ensures .0) (c .before .before .before .before .before .before .before .before .before .before .before .before .before .before .before .before .before .before .before .before .before .before .before .pre .0), c .before .before .before .before .before .before .before .before .before .before .before .before .before .before .before .before .before .before .loop .inv .1 .longAs, c .before .before .before .before .before .before .before .before .before .before .before .before .before .before .before .before .before .before .before .before .before .before .before .good .1 .1 .1 .0 .1)
+add-count c = omega (arith, lay-room (lay-runs (c .before .before .before .before .before .before .before .before .before .before .before .before .before .before .before .before .before .loop .inv .1) (c .before .before .before .before .before .before .before .before .before .before .before .before .before .before .before .before .run .ensures)) (c .before .before .before .before .before .before .before .before .before .before .before .before .before .before .before .if1 .left) (c .before .before .before .before .before .before .before .before .before .before .before .before .before .code-of .result) _ _ (omega (arith, c .before .before .before .before .before .before .before .before .before .before .before .before .before .before .shared-slice-known3 .given (c .before .before .before .before .before .before .before .before .before .before .before .before .before .before .before .before .run .result .next))) refl refl (c .before .before .before .before .before .before .before .before .before .before .before .before .before .code-of .ensures) _ _ (ap turnSays (sym (c .before .before .before .before .before .before .after .given .1)) ∙ c .before .before .before .before .before .before .before .before .turn-of .ensures .0) (c .before .before .before .before .before .before .before .before .before .before .before .before .before .before .before .before .before .before .before .before .before .before .pre .0), c .before .before .before .before .before .before .before .before .before .before .before .before .before .before .before .before .before .loop .inv .1 .longAs, c .before .before .before .before .before .before .before .before .before .before .before .before .before .before .before .before .before .before .before .before .before .before .good .1 .1 .1 .0 .1)
 
 enum-told : tie.Need-enum-told Inv-loop μ-loop
 enum-told c = c .match .keys2
 
 same-length-3 : tie.Need-same-length-3 Inv-loop μ-loop
-same-length-3 c = omega (arith, c .before .before .before .before .before .before .before .before .before .before .before .before .loop .inv .0, c .before .before .before .before .before .before .before .before .before .before .before .before .before .before .before .before .before .pre .1 .1 .1)
+same-length-3 c = omega (arith, c .before .before .before .before .before .before .before .before .before .before .before .loop .inv .0, c .before .before .before .before .before .before .before .before .before .before .before .before .before .before .before .before .pre .1 .1 .1 .1)
 
 same-length-4 : tie.Need-same-length-4 Inv-loop μ-loop
-same-length-4 c = c .before .before .before .before .before .before .before .before .before .before .before .before .loop .inv .1 .longAs
+same-length-4 c = c .before .before .before .before .before .before .before .before .before .before .before .loop .inv .1 .longAs
 
 returns-2 : tie.Need-returns-2 Inv-loop μ-loop
 unfolding turnSays
-returns-2 c = absurd (lay-no-text (lay-runs (c .before .before .before .before .before .before .before .before .before .before .before .before .loop .inv .1) (c .before .before .before .before .before .before .before .before .before .before .before .run .ensures)) (c .before .before .before .before .before .before .before .before .before .before .if1 .left) (c .before .before .before .before .before .before .before .code-at .result) (c .before .before .before .before .before .before .before .before .class-of .result) _ (omega (arith, c .before .before .before .before .before .before .before .before .before .shared-slice-known3 .given (c .before .before .before .before .before .before .before .before .before .before .before .run .result .next))) refl (c .before .before .before .before .before .before .before .before .class-of .ensures) (c .before .before .before .before .before .before .before .code-at .ensures) (c .before .before .before .before .before .before .before .before .before .before .before .before .before .before .before .before .before .pre .0) (ap turnSays (sym (c .enum-told .given .1)) ∙ c .before .before .turn-of .ensures .0))
+returns-2 c = absurd (lay-no-text (lay-runs (c .before .before .before .before .before .before .before .before .before .before .before .loop .inv .1) (c .before .before .before .before .before .before .before .before .before .before .run .ensures)) (c .before .before .before .before .before .before .before .before .before .if1 .left) (c .before .before .before .before .before .before .before .code-of .result) _ _ (omega (arith, c .before .before .before .before .before .before .before .before .shared-slice-known3 .given (c .before .before .before .before .before .before .before .before .before .before .run .result .next))) refl refl (c .before .before .before .before .before .before .before .code-of .ensures) (c .before .before .before .before .before .before .before .before .before .before .before .before .before .before .before .before .pre .0) (ap turnSays (sym (c .enum-told .given .1)) ∙ c .before .before .turn-of .ensures .0))
 
 enum-told-2 : tie.Need-enum-told-2 Inv-loop μ-loop
 enum-told-2 c = c .match .keys3
 
 same-length-5 : tie.Need-same-length-5 Inv-loop μ-loop
-same-length-5 c = omega (arith, c .before .before .before .before .before .before .before .before .before .before .before .before .loop .inv .0, c .before .before .before .before .before .before .before .before .before .before .before .before .before .before .before .before .before .pre .1 .1 .1)
+same-length-5 c = omega (arith, c .before .before .before .before .before .before .before .before .before .before .before .loop .inv .0, c .before .before .before .before .before .before .before .before .before .before .before .before .before .before .before .before .pre .1 .1 .1 .1)
 
 same-length-6 : tie.Need-same-length-6 Inv-loop μ-loop
-same-length-6 c = c .before .before .before .before .before .before .before .before .before .before .before .before .loop .inv .1 .longAs
+same-length-6 c = c .before .before .before .before .before .before .before .before .before .before .before .loop .inv .1 .longAs
 
 returns-3 : tie.Need-returns-3 Inv-loop μ-loop
 unfolding turnSays
-returns-3 c = absurd (lay-too-many (lay-runs (c .before .before .before .before .before .before .before .before .before .before .before .before .loop .inv .1) (c .before .before .before .before .before .before .before .before .before .before .before .run .ensures)) (c .before .before .before .before .before .before .before .before .before .before .if1 .left) (c .before .before .before .before .before .before .before .code-at .result) (c .before .before .before .before .before .before .before .before .class-of .result) _ (omega (arith, c .before .before .before .before .before .before .before .before .before .shared-slice-known3 .given (c .before .before .before .before .before .before .before .before .before .before .before .run .result .next))) refl (c .before .before .before .before .before .before .before .before .class-of .ensures) (c .before .before .before .before .before .before .before .code-at .ensures) (c .before .before .before .before .before .before .before .before .before .before .before .before .before .before .before .before .before .pre .0) (ap turnSays (sym (c .enum-told2 .given .1)) ∙ c .before .before .turn-of .ensures .0))
+returns-3 c = absurd (lay-too-many (lay-runs (c .before .before .before .before .before .before .before .before .before .before .before .loop .inv .1) (c .before .before .before .before .before .before .before .before .before .before .run .ensures)) (c .before .before .before .before .before .before .before .before .before .if1 .left) (c .before .before .before .before .before .before .before .code-of .result) _ _ (omega (arith, c .before .before .before .before .before .before .before .before .shared-slice-known3 .given (c .before .before .before .before .before .before .before .before .before .before .run .result .next))) refl refl (c .before .before .before .before .before .before .before .code-of .ensures) (c .before .before .before .before .before .before .before .before .before .before .before .before .before .before .before .before .pre .0) (ap turnSays (sym (c .enum-told2 .given .1)) ∙ c .before .before .turn-of .ensures .0))
 
 add-i : tie.Need-add-i Inv-loop μ-loop
-add-i c = omega (arith, c .before .before .before .before .before .before .before .before .before .before .before .before .before .before .before .before .if1 .left, c .before .before .before .before .before .before .before .before .before .before .before .before .before .before .before .before .before .before .before .before .before .before .before .good .0 .1)
+add-i c = omega (arith, c .before .before .before .before .before .before .before .before .before .before .before .before .before .before .before .if1 .left, c .before .before .before .before .before .before .before .before .before .before .before .before .before .before .before .before .before .before .before .before .before .before .good .0 .1)
 
 begun-after-requires : tie.Need-begun-after-requires Inv-loop μ-loop
 begun-after-requires c κs = tt
 
 loop-less : tie.Need-loop-less Inv-loop μ-loop
-loop-less c = omega (arith, c .before .before .before .before .before .before .before .before .before .before .before .before .before .before .before .before .before .if1 .left, c .before .before .before .before .before .before .before .before .before .before .before .before .before .before .before .before .before .before .run .ensures .further)
+loop-less c = omega (arith, c .before .before .before .before .before .before .before .before .before .before .before .before .before .before .before .before .if1 .left, c .before .before .before .before .before .before .before .before .before .before .before .before .before .before .before .before .before .run .ensures .further)
 
 loop-again : tie.Need-loop-again Inv-loop μ-loop
-loop-again c = (omega (arith, c .before .before .before .before .before .before .before .before .before .before .before .before .before .before .before .before .before .before .before .loop .inv .0), lay-on (lay-runs (c .before .before .before .before .before .before .before .before .before .before .before .before .before .before .before .before .before .before .before .loop .inv .1) (c .before .before .before .before .before .before .before .before .before .before .before .before .before .before .before .before .before .before .run .ensures)) (c .before .before .before .before .before .before .before .before .before .before .before .before .before .before .before .before .before .if1 .left) (c .before .before .before .before .before .before .before .before .before .before .before .before .before .before .code-at .result) (c .before .before .before .before .before .before .before .before .before .before .before .before .before .before .before .class-of .result) _ (omega (arith, c .before .before .before .before .before .before .before .before .before .before .before .before .before .before .before .before .shared-slice-known3 .given (c .before .before .before .before .before .before .before .before .before .before .before .before .before .before .before .before .before .before .run .result .next))) refl (c .before .before .before .before .before .before .before .before .before .before .before .before .before .before .before .class-of .ensures) (c .before .before .before .before .before .before .before .before .before .before .before .before .before .before .code-at .ensures) _ _ (ap turnSays (sym (c .before .before .before .before .before .before .before .after .given .1)) ∙ c .before .before .before .before .before .before .before .before .before .turn-of .ensures .0) _ _ _ _ (c .before .before .before .before .before .before .before .before .before .before .before .before .before .before .before .before .before .before .before .before .before .before .before .before .pre .0) (c .before .before .before .before .first-event .ensures) (c .before .before .before .before .before .before .before .before .before .before .before .before .second-event .ensures) (c .begun-after .ensures) (c .before .before .before .put .ensures) (subst GoodTurn (c .before .before .before .before .before .before .before .after .given .1) (c .before .before .before .before .before .before .before .before .before .turn-of .ensures .1)) (omega arith))
+loop-again c = (omega (arith, c .before .before .before .before .before .before .before .before .before .before .before .before .before .before .before .before .before .before .loop .inv .0), lay-on (lay-runs (c .before .before .before .before .before .before .before .before .before .before .before .before .before .before .before .before .before .before .loop .inv .1) (c .before .before .before .before .before .before .before .before .before .before .before .before .before .before .before .before .before .run .ensures)) (c .before .before .before .before .before .before .before .before .before .before .before .before .before .before .before .before .if1 .left) (c .before .before .before .before .before .before .before .before .before .before .before .before .before .before .code-of .result) _ _ (omega (arith, c .before .before .before .before .before .before .before .before .before .before .before .before .before .before .before .shared-slice-known3 .given (c .before .before .before .before .before .before .before .before .before .before .before .before .before .before .before .before .before .run .result .next))) refl refl (c .before .before .before .before .before .before .before .before .before .before .before .before .before .before .code-of .ensures) _ _ (ap turnSays (sym (c .before .before .before .before .before .before .before .after .given .1)) ∙ c .before .before .before .before .before .before .before .before .before .turn-of .ensures .0) _ _ _ _ (c .before .before .before .before .before .before .before .before .before .before .before .before .before .before .before .before .before .before .before .before .before .before .before .pre .0) (c .before .before .before .before .first-event .ensures) (c .before .before .before .before .before .before .before .before .before .before .before .before .second-event .ensures) (c .begun-after .ensures) (c .before .before .before .put .ensures) (subst GoodTurn (c .before .before .before .before .before .before .before .after .given .1) (c .before .before .before .before .before .before .before .before .before .turn-of .ensures .1)) (omega arith))
 
 pub lay-spec : {M : Type 1} → statement M
 lay-spec =
@@ -114,9 +110,8 @@ lay-spec =
     same-length
     same-length-2
     returns
-    shared-slice-read-class-of
-    class-of-requires
-    code-at-requires
+    shared-slice-read-code-of
+    code-of-requires
     second-event-requires
     turn-of-requires
     enum-known-after

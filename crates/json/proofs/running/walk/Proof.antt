@@ -2,48 +2,38 @@
 use mathlib.Core.Path.{refl}
 use Prim.Native.Nat.{_-_}
 use lib.ListN.{length}
-use native.Mathlib.Omega.{arith}
 use Rattle.json.specs.Running.{Runs}
-use Rattle.json.proofs.CodesSay.{class-few}
 use Rattle.json.proofs.RunOn.{run-none, run-on}
+use native.Mathlib.Omega.{arith}
 use Rattle.json.proofs.running.walk.Statement.{statement}
 use Rattle.json.proofs.running.walk.Tie as tie
 
 abbrev Inv-loop : tie.InvT-loop
-Inv-loop text from place next₀ here₀ next here = Runs text from place next here
+Inv-loop text from place bytes table next₀ here₀ next here = Runs text from place next here
 
 abbrev μ-loop : tie.MeasureT-loop
-μ-loop text from place next₀ here₀ next here = length text - next
+μ-loop text from place bytes table next₀ here₀ next here = length text - next
 
 loop-holds : tie.Need-loop-holds Inv-loop μ-loop
-loop-holds c = run-none (c .before .pre .0) (c .before .pre .1)
+loop-holds c = run-none (c .before .pre .0) (c .before .pre .1 .0)
 
-shared-slice-read-class-of : tie.Need-shared-slice-read-class-of Inv-loop μ-loop
-shared-slice-read-class-of c = omega arith
+shared-slice-read-code-of : tie.Need-shared-slice-read-code-of Inv-loop μ-loop
+shared-slice-read-code-of c = omega arith
 
-class-of-requires : tie.Need-class-of-requires Inv-loop μ-loop
-class-of-requires c κs = tt
-
-code-at-requires : tie.Need-code-at-requires Inv-loop μ-loop
-code-at-requires c κs = (c .before .before .before .loop .inv .placed, rw (c .class-of .ensures) (class-few _))
+code-of-requires : tie.Need-code-of-requires Inv-loop μ-loop
+code-of-requires c κs = (c .before .before .before .before .pre .1 .1, c .before .before .loop .inv .placed)
 
 returns : tie.Need-returns Inv-loop μ-loop
-returns c = c .before .before .before .before .before .loop .inv
+returns c = c .before .before .before .before .loop .inv
 
 add-next : tie.Need-add-next Inv-loop μ-loop
-add-next c = omega (arith, c .before .before .before .before .loop-test .taken)
+add-next c = omega (arith, c .before .before .before .loop-test .taken)
 
 loop-less : tie.Need-loop-less Inv-loop μ-loop
-loop-less c = omega (arith, c .before .before .before .before .loop-test .taken)
+loop-less c = omega (arith, c .before .before .before .loop-test .taken)
 
 loop-again : tie.Need-loop-again Inv-loop μ-loop
-loop-again c =
-    let code = c .before .code-at in
-    let class = c .before .before .class-of in
-    let known = c .before .before .before in
-    let loop = known .before .before .loop in
-    run-on (loop .inv) _ (class .result) (code .result) (known .before .loop-test .taken)
-    (omega (arith, known .shared-slice-known2 .given (loop .next))) refl (class .ensures) (code .ensures) (c .if1 .left)
+loop-again c = run-on (c .before .before .before .before .loop .inv) _ _ (c .before .code-of .result) (c .before .before .before .loop-test .taken) (omega (arith, c .before .before .shared-slice-known2 .given (c .before .before .before .before .loop .next))) refl refl (c .before .code-of .ensures) (c .if1 .left)
 
 returns-2 : tie.Need-returns-2 Inv-loop μ-loop
 returns-2 c = c .before .loop .inv
@@ -55,9 +45,8 @@ walk-spec =
     Inv-loop
     μ-loop
     loop-holds
-    shared-slice-read-class-of
-    class-of-requires
-    code-at-requires
+    shared-slice-read-code-of
+    code-of-requires
     returns
     add-next
     loop-less

@@ -5,12 +5,12 @@ use Rattle.json.specs.Codes.{ends}
 use Rattle.json.proofs.table.end_at.Statement.{statement}
 use Rattle.json.proofs.table.end_at.Tie as tie
 
-element-copy-out-result : tie.Need-element-copy-out-result
-element-copy-out-result c = search needs
+array-read-result : tie.Need-array-read-result
+array-read-result c = search needs
 
 returns : tie.Need-returns
 unfolding ends
 returns c = refl
 
 pub end-at-spec : {M : Type 1} → statement M
-end-at-spec = tie.close (tie.spec element-copy-out-result returns)
+end-at-spec = tie.close (tie.spec array-read-result returns)
