@@ -28,7 +28,7 @@ fn needs_look(b: u8) -> u8
     0
 }
 
-// How many bytes of a block need a look: none, if all are plain.
+// 1 if a byte of a block needs a look, and 0 if all are plain.
 fn looks_in(text: &[u8], from: usize) -> u8
     requires { ⌜ from + 32 ≤ length (now text) ⌝ }
     ensures { λ r. ⌜ (r ≡ 0 → AllPlain (now (text .entry)) from (from + 32)) ⌝ }
@@ -36,7 +36,7 @@ fn looks_in(text: &[u8], from: usize) -> u8
     let mut looks: u8 = 0;
     let mut k = 0;
     while k < BLOCK {
-        looks += needs_look(text[from + k]);
+        looks |= needs_look(text[from + k]);
         k += 1;
     }
     looks

@@ -25,9 +25,6 @@ shared-slice-read-needs-look c = omega arith
 needs-look-requires : tie.Need-needs-look-requires Inv-loop μ-loop
 needs-look-requires c κs = tt
 
-add-looks : tie.Need-add-looks Inv-loop μ-loop
-add-looks c = omega (arith, c .before .before .before .loop .inv .few, c .before .before .before .loop .inv .small, c .needs-look .ensures .0)
-
 add-k : tie.Need-add-k Inv-loop μ-loop
 add-k c = omega arith
 
@@ -57,7 +54,6 @@ looks-in-spec =
     add-needs-look
     shared-slice-read-needs-look
     needs-look-requires
-    add-looks
     add-k
     loop-less
     loop-again
