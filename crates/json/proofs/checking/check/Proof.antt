@@ -23,7 +23,7 @@ run-requires : tie.Need-run-requires Inv-loop μ-loop
 run-requires c κs = (c .loop .inv .within, (c .loop .inv .stands .placed, c .before .before .pre))
 
 ended-requires : tie.Need-ended-requires Inv-loop μ-loop
-ended-requires c κs = (runs-on (c .before .before .loop .inv) (c .before .run .ensures)) .stands
+ended-requires c κs = runs-on (c .before .before .loop .inv) (c .before .run .ensures) .stands
 
 returns : tie.Need-returns Inv-loop μ-loop
 returns c = c .ended .ensures ∙ ends-so (runs-on (c .before .before .before .loop .inv) (c .before .before .run .ensures)) (c .before .if1 .taken)
@@ -35,7 +35,7 @@ code-of-requires : tie.Need-code-of-requires Inv-loop μ-loop
 code-of-requires c κs = (c .before .before .before .before .before .pre, c .before .before .run .ensures .placed)
 
 turn-of-requires : tie.Need-turn-of-requires Inv-loop μ-loop
-turn-of-requires c κs = (runs-on (c .before .before .before .before .loop .inv) (c .before .before .before .run .ensures)) .stands
+turn-of-requires c κs = runs-on (c .before .before .before .before .loop .inv) (c .before .before .before .run .ensures) .stands
 
 enum-known-after : tie.Need-enum-known-after Inv-loop μ-loop
 enum-known-after c = c .match .keys1
@@ -44,7 +44,9 @@ cast-count : tie.Need-cast-count Inv-loop μ-loop
 cast-count c = omega (arith, few-events (subst GoodTurn (c .before .after .given .1) (c .before .before .before .turn-of .ensures .1)) .1)
 
 add-count : tie.Need-add-count Inv-loop μ-loop
-add-count c = omega (arith, c .before .before .before .before .before .before .before .before .loop .inv .few, c .before .before .before .before .before .before .before .run .ensures .further, few-events (subst GoodTurn (c .before .after .given .1) (c .before .before .before .turn-of .ensures .1)) .1, c .before .before .before .before .before .before .before .before .before .before .good .0 .1, c .before .before .before .before .before .before .if1 .left)
+add-count c =
+    let run = c .before .before .before .before .before .before .before in
+    omega (arith, run .before .loop .inv .few, run .run .ensures .further, few-events (subst GoodTurn (c .before .after .given .1) (c .before .before .before .turn-of .ensures .1)) .1, c .before .before .before .before .before .before .before .before .before .before .good .0 .1, c .before .before .before .before .before .before .if1 .left)
 
 enum-told : tie.Need-enum-told Inv-loop μ-loop
 enum-told c = c .match .keys2
@@ -54,8 +56,14 @@ refuse-requires c κs = tt
 
 returns-2 : tie.Need-returns-2 Inv-loop μ-loop
 returns-2 c =
+    let run = c .before .before .before .before .before .before .before in
+    let looked = c .before .before .before .before in
+    let on = runs-on (run .before .loop .inv) (run .run .ensures) in
+    let left = looked .before .before .if1 .left in
     c .refuse .ensures
-    ∙ stops-not-json (runs-on (c .before .before .before .before .before .before .before .before .loop .inv) (c .before .before .before .before .before .before .before .run .ensures)) (c .before .before .before .before .before .before .if1 .left) (by-table (runs-on (c .before .before .before .before .before .before .before .before .loop .inv) (c .before .before .before .before .before .before .before .run .ensures)) _ (c .before .before .before .before .code-of .result) (omega (arith, c .before .before .before .before .before .shared-slice-known2 .given (c .before .before .before .before .before .before .before .run .result .next))) refl (c .before .before .before .before .code-of .ensures) _ (ap turnSays (sym (c .before .enum-told .given .1)) ∙ c .before .before .before .turn-of .ensures .0))
+    ∙ stops-not-json on left
+    (by-table on _ (looked .code-of .result) (omega (arith, looked .before .shared-slice-known2 .given (run .run .result .next))) refl (looked .code-of .ensures) _
+    (ap turnSays (sym (c .before .enum-told .given .1)) ∙ c .before .before .before .turn-of .ensures .0))
 
 enum-told-2 : tie.Need-enum-told-2 Inv-loop μ-loop
 enum-told-2 c = c .match .keys3
@@ -65,8 +73,14 @@ refuse-requires-2 c κs = tt
 
 returns-3 : tie.Need-returns-3 Inv-loop μ-loop
 returns-3 c =
+    let run = c .before .before .before .before .before .before .before in
+    let looked = c .before .before .before .before in
+    let on = runs-on (run .before .loop .inv) (run .run .ensures) in
+    let left = looked .before .before .if1 .left in
     c .refuse2 .ensures
-    ∙ stops-too-deep (runs-on (c .before .before .before .before .before .before .before .before .loop .inv) (c .before .before .before .before .before .before .before .run .ensures)) (c .before .before .before .before .before .before .if1 .left) (by-table (runs-on (c .before .before .before .before .before .before .before .before .loop .inv) (c .before .before .before .before .before .before .before .run .ensures)) _ (c .before .before .before .before .code-of .result) (omega (arith, c .before .before .before .before .before .shared-slice-known2 .given (c .before .before .before .before .before .before .before .run .result .next))) refl (c .before .before .before .before .code-of .ensures) _ (ap turnSays (sym (c .before .enum-told2 .given .1)) ∙ c .before .before .before .turn-of .ensures .0))
+    ∙ stops-too-deep on left
+    (by-table on _ (looked .code-of .result) (omega (arith, looked .before .shared-slice-known2 .given (run .run .result .next))) refl (looked .code-of .ensures) _
+    (ap turnSays (sym (c .before .enum-told2 .given .1)) ∙ c .before .before .before .turn-of .ensures .0))
 
 add-i : tie.Need-add-i Inv-loop μ-loop
 add-i c = omega (arith, c .before .before .before .before .before .before .if1 .left)
@@ -75,7 +89,15 @@ loop-less : tie.Need-loop-less Inv-loop μ-loop
 loop-less c = omega (arith, c .before .before .before .before .before .before .if1 .left, c .before .before .before .before .before .before .before .run .ensures .further)
 
 loop-again : tie.Need-loop-again Inv-loop μ-loop
-loop-again c = goes-on (runs-on (c .before .before .before .before .before .before .before .before .loop .inv) (c .before .before .before .before .before .before .before .run .ensures)) _ _ (c .before .before .before .before .before .before .if1 .left) (by-table (runs-on (c .before .before .before .before .before .before .before .before .loop .inv) (c .before .before .before .before .before .before .before .run .ensures)) _ (c .before .before .before .before .code-of .result) (omega (arith, c .before .before .before .before .before .shared-slice-known2 .given (c .before .before .before .before .before .before .before .run .result .next))) refl (c .before .before .before .before .code-of .ensures) _ (ap turnSays (sym (c .before .after .given .1)) ∙ c .before .before .before .turn-of .ensures .0)) (subst GoodTurn (c .before .after .given .1) (c .before .before .before .turn-of .ensures .1))
+loop-again c =
+    let run = c .before .before .before .before .before .before .before in
+    let looked = c .before .before .before .before in
+    let on = runs-on (run .before .loop .inv) (run .run .ensures) in
+    let left = looked .before .before .if1 .left in
+    goes-on on _ _ left
+    (by-table on _ (looked .code-of .result) (omega (arith, looked .before .shared-slice-known2 .given (run .run .result .next))) refl (looked .code-of .ensures) _
+    (ap turnSays (sym (c .before .after .given .1)) ∙ c .before .before .before .turn-of .ensures .0))
+    (subst GoodTurn (c .before .after .given .1) (c .before .before .before .turn-of .ensures .1))
 
 pub check-spec : {M : Type 1} → statement M
 check-spec =

@@ -52,14 +52,31 @@ first-event-requires c κs = tt
 
 put-requires : tie.Need-put-requires Inv-loop μ-loop
 put-requires c κs =
-    let held = few-events (subst GoodTurn (c .before .before .before .after .given .1) (c .before .before .before .before .before .turn-of .ensures .1)) in
-    (held .1, lay-room (lay-runs (c .before .before .before .before .before .before .before .before .before .before .before .before .before .before .loop .inv .1) (c .before .before .before .before .before .before .before .before .before .before .before .before .before .run .ensures)) (c .before .before .before .before .before .before .before .before .before .before .before .before .if1 .left) (c .before .before .before .before .before .before .before .before .before .before .code-of .result) _ _ (omega (arith, c .before .before .before .before .before .before .before .before .before .before .before .shared-slice-known3 .given (c .before .before .before .before .before .before .before .before .before .before .before .before .before .run .result .next))) refl refl (c .before .before .before .before .before .before .before .before .before .before .code-of .ensures) _ _ (ap turnSays (sym (c .before .before .before .after .given .1)) ∙ c .before .before .before .before .before .turn-of .ensures .0) (c .before .before .before .before .before .before .before .before .before .before .before .before .before .before .before .before .before .before .before .pre .0))
+    let run = c .before .before .before .before .before .before .before .before .before .before .before .before .before in
+    let looked = c .before .before .before .before .before .before .before .before .before .before in
+    let on = lay-runs (run .before .loop .inv .1) (run .run .ensures) in
+    let left = looked .before .before .if1 .left in (
+      few-events (subst GoodTurn (c .before .before .before .after .given .1) (c .before .before .before .before .before .turn-of .ensures .1)) .1,
+      lay-room on left (looked .code-of .result) _ _ (omega (arith, looked .before .shared-slice-known3 .given (run .run .result .next))) refl refl
+          (looked .code-of .ensures) _ _ (ap turnSays (sym (c .before .before .before .after .given .1)) ∙ c .before .before .before .before .before .turn-of .ensures .0) (c .before .before .before .before .before .before .before .before .before .before .before .before .before .before .before .before .before .before .before .pre .0),
+    )
 
 cast-count : tie.Need-cast-count Inv-loop μ-loop
 cast-count c = omega (arith, few-events (subst GoodTurn (c .before .before .before .before .before .before .after .given .1) (c .before .before .before .before .before .before .before .before .turn-of .ensures .1)) .1)
 
 add-count : tie.Need-add-count Inv-loop μ-loop
-add-count c = omega (arith, lay-room (lay-runs (c .before .before .before .before .before .before .before .before .before .before .before .before .before .before .before .before .before .loop .inv .1) (c .before .before .before .before .before .before .before .before .before .before .before .before .before .before .before .before .run .ensures)) (c .before .before .before .before .before .before .before .before .before .before .before .before .before .before .before .if1 .left) (c .before .before .before .before .before .before .before .before .before .before .before .before .before .code-of .result) _ _ (omega (arith, c .before .before .before .before .before .before .before .before .before .before .before .before .before .before .shared-slice-known3 .given (c .before .before .before .before .before .before .before .before .before .before .before .before .before .before .before .before .run .result .next))) refl refl (c .before .before .before .before .before .before .before .before .before .before .before .before .before .code-of .ensures) _ _ (ap turnSays (sym (c .before .before .before .before .before .before .after .given .1)) ∙ c .before .before .before .before .before .before .before .before .turn-of .ensures .0) (c .before .before .before .before .before .before .before .before .before .before .before .before .before .before .before .before .before .before .before .before .before .before .pre .0), c .before .before .before .before .before .before .before .before .before .before .before .before .before .before .before .before .before .loop .inv .1 .longAs, c .before .before .before .before .before .before .before .before .before .before .before .before .before .before .before .before .before .before .before .before .before .before .good .1 .1 .1 .0 .1)
+add-count c =
+    let run = c .before .before .before .before .before .before .before .before .before .before .before .before .before .before .before .before in
+    let looked = c .before .before .before .before .before .before .before .before .before .before .before .before .before in
+    let on = lay-runs (run .before .loop .inv .1) (run .run .ensures) in
+    let left = looked .before .before .if1 .left in
+    omega (
+      arith,
+      lay-room on left (looked .code-of .result) _ _ (omega (arith, looked .before .shared-slice-known3 .given (run .run .result .next))) refl refl
+          (looked .code-of .ensures) _ _ (ap turnSays (sym (c .before .before .before .before .before .before .after .given .1)) ∙ c .before .before .before .before .before .before .before .before .turn-of .ensures .0) (c .before .before .before .before .before .before .before .before .before .before .before .before .before .before .before .before .before .before .before .before .before .before .pre .0),
+      run .before .loop .inv .1 .longAs,
+      c .before .before .before .before .before .before .before .before .before .before .before .before .before .before .before .before .before .before .before .before .before .before .good .1 .1 .1 .0 .1,
+    )
 
 enum-told : tie.Need-enum-told Inv-loop μ-loop
 enum-told c = c .match .keys2
@@ -72,7 +89,13 @@ same-length-4 c = c .before .before .before .before .before .before .before .bef
 
 returns-2 : tie.Need-returns-2 Inv-loop μ-loop
 unfolding turnSays
-returns-2 c = absurd (lay-no-text (lay-runs (c .before .before .before .before .before .before .before .before .before .before .before .loop .inv .1) (c .before .before .before .before .before .before .before .before .before .before .run .ensures)) (c .before .before .before .before .before .before .before .before .before .if1 .left) (c .before .before .before .before .before .before .before .code-of .result) _ _ (omega (arith, c .before .before .before .before .before .before .before .before .shared-slice-known3 .given (c .before .before .before .before .before .before .before .before .before .before .run .result .next))) refl refl (c .before .before .before .before .before .before .before .code-of .ensures) (c .before .before .before .before .before .before .before .before .before .before .before .before .before .before .before .before .pre .0) (ap turnSays (sym (c .enum-told .given .1)) ∙ c .before .before .turn-of .ensures .0))
+returns-2 c =
+    let run = c .before .before .before .before .before .before .before .before .before .before in
+    let looked = c .before .before .before .before .before .before .before in
+    let on = lay-runs (run .before .loop .inv .1) (run .run .ensures) in
+    let left = looked .before .before .if1 .left in
+    absurd (lay-no-text on left (looked .code-of .result) _ _ (omega (arith, looked .before .shared-slice-known3 .given (run .run .result .next))) refl refl
+    (looked .code-of .ensures) (c .before .before .before .before .before .before .before .before .before .before .before .before .before .before .before .before .pre .0) (ap turnSays (sym (c .enum-told .given .1)) ∙ c .before .before .turn-of .ensures .0))
 
 enum-told-2 : tie.Need-enum-told-2 Inv-loop μ-loop
 enum-told-2 c = c .match .keys3
@@ -85,7 +108,13 @@ same-length-6 c = c .before .before .before .before .before .before .before .bef
 
 returns-3 : tie.Need-returns-3 Inv-loop μ-loop
 unfolding turnSays
-returns-3 c = absurd (lay-too-many (lay-runs (c .before .before .before .before .before .before .before .before .before .before .before .loop .inv .1) (c .before .before .before .before .before .before .before .before .before .before .run .ensures)) (c .before .before .before .before .before .before .before .before .before .if1 .left) (c .before .before .before .before .before .before .before .code-of .result) _ _ (omega (arith, c .before .before .before .before .before .before .before .before .shared-slice-known3 .given (c .before .before .before .before .before .before .before .before .before .before .run .result .next))) refl refl (c .before .before .before .before .before .before .before .code-of .ensures) (c .before .before .before .before .before .before .before .before .before .before .before .before .before .before .before .before .pre .0) (ap turnSays (sym (c .enum-told2 .given .1)) ∙ c .before .before .turn-of .ensures .0))
+returns-3 c =
+    let run = c .before .before .before .before .before .before .before .before .before .before in
+    let looked = c .before .before .before .before .before .before .before in
+    let on = lay-runs (run .before .loop .inv .1) (run .run .ensures) in
+    let left = looked .before .before .if1 .left in
+    absurd (lay-too-many on left (looked .code-of .result) _ _ (omega (arith, looked .before .shared-slice-known3 .given (run .run .result .next))) refl refl
+    (looked .code-of .ensures) (c .before .before .before .before .before .before .before .before .before .before .before .before .before .before .before .before .pre .0) (ap turnSays (sym (c .enum-told2 .given .1)) ∙ c .before .before .turn-of .ensures .0))
 
 add-i : tie.Need-add-i Inv-loop μ-loop
 add-i c = omega (arith, c .before .before .before .before .before .before .before .before .before .before .before .before .before .before .before .if1 .left, c .before .before .before .before .before .before .before .before .before .before .before .before .before .before .before .before .before .before .before .before .before .before .good .0 .1)
@@ -97,7 +126,19 @@ loop-less : tie.Need-loop-less Inv-loop μ-loop
 loop-less c = omega (arith, c .before .before .before .before .before .before .before .before .before .before .before .before .before .before .before .before .if1 .left, c .before .before .before .before .before .before .before .before .before .before .before .before .before .before .before .before .before .run .ensures .further)
 
 loop-again : tie.Need-loop-again Inv-loop μ-loop
-loop-again c = (omega (arith, c .before .before .before .before .before .before .before .before .before .before .before .before .before .before .before .before .before .before .loop .inv .0), lay-on (lay-runs (c .before .before .before .before .before .before .before .before .before .before .before .before .before .before .before .before .before .before .loop .inv .1) (c .before .before .before .before .before .before .before .before .before .before .before .before .before .before .before .before .before .run .ensures)) (c .before .before .before .before .before .before .before .before .before .before .before .before .before .before .before .before .if1 .left) (c .before .before .before .before .before .before .before .before .before .before .before .before .before .before .code-of .result) _ _ (omega (arith, c .before .before .before .before .before .before .before .before .before .before .before .before .before .before .before .shared-slice-known3 .given (c .before .before .before .before .before .before .before .before .before .before .before .before .before .before .before .before .before .run .result .next))) refl refl (c .before .before .before .before .before .before .before .before .before .before .before .before .before .before .code-of .ensures) _ _ (ap turnSays (sym (c .before .before .before .before .before .before .before .after .given .1)) ∙ c .before .before .before .before .before .before .before .before .before .turn-of .ensures .0) _ _ _ _ (c .before .before .before .before .before .before .before .before .before .before .before .before .before .before .before .before .before .before .before .before .before .before .before .pre .0) (c .before .before .before .before .first-event .ensures) (c .before .before .before .before .before .before .before .before .before .before .before .before .second-event .ensures) (c .begun-after .ensures) (c .before .before .before .put .ensures) (subst GoodTurn (c .before .before .before .before .before .before .before .after .given .1) (c .before .before .before .before .before .before .before .before .before .turn-of .ensures .1)) (omega arith))
+loop-again c = (
+  omega (arith, c .before .before .before .before .before .before .before .before .before .before .before .before .before .before .before .before .before .before .loop .inv .0),
+  let run = c .before .before .before .before .before .before .before .before .before .before .before .before .before .before .before .before .before in
+      let looked = c .before .before .before .before .before .before .before .before .before .before .before .before .before .before in
+      let on = lay-runs (run .before .loop .inv .1) (run .run .ensures) in
+      let left = looked .before .before .if1 .left in
+      let laid =
+      lay-on on left (looked .code-of .result) _ _ (omega (arith, looked .before .shared-slice-known3 .given (run .run .result .next))) refl refl
+      (looked .code-of .ensures) _ _ (ap turnSays (sym (c .before .before .before .before .before .before .before .after .given .1)) ∙ c .before .before .before .before .before .before .before .before .before .turn-of .ensures .0) _ _ _ _ (c .before .before .before .before .before .before .before .before .before .before .before .before .before .before .before .before .before .before .before .before .before .before .before .pre .0)
+      (c .before .before .before .before .first-event .ensures) (c .before .before .before .before .before .before .before .before .before .before .before .before .second-event .ensures) (c .begun-after .ensures) (c .before .before .before .put .ensures)
+      in
+      laid (subst GoodTurn (c .before .before .before .before .before .before .before .after .given .1) (c .before .before .before .before .before .before .before .before .before .turn-of .ensures .1)) (omega arith),
+)
 
 pub lay-spec : {M : Type 1} → statement M
 lay-spec =
