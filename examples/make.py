@@ -69,6 +69,30 @@ GAPS = rule(2, 0, 0, 2,
             [[1, NONE], [0, NONE]],
             [REJECT, ACCEPT])
 
+# State 2 is spare: no tree can end in it, and with it as lower state every tree
+# move leads to it.
+SPARE = rule(3, 0, 1, 2,
+             [[0, 1], [1, 1], [2, 2]],
+             [[NONE, 0, 2], [NONE, 1, 2], [2, 2, 2]],
+             [ACCEPT, REJECT, OFF_SCHEMA])
+
+# No tree start, so no tree move counts in Reach.
+NO_START = rule(2, 0, NONE, 1, [[0], [1]], [[1, 0], [0, 1]], [REJECT, ACCEPT])
+
+# A tree move of 0 waits for lower state 1, and one of 1 for lower state 2.
+MET_LATER = rule(3, 0, 0, 1,
+                 [[1], [NONE], [NONE]],
+                 [[NONE, 2, NONE], [NONE, NONE, 0], [NONE] * 3],
+                 [ACCEPT] * 3)
+
+# In each round of the tree start's set one tree move finds its lower state; the
+# last one leads back.
+TREE_CHAIN = rule(64, 0, 0, 1,
+                  [[NONE]] * 64,
+                  [[min(u + 1, 125 - u) if p == u else NONE for p in range(64)]
+                   for u in range(64)],
+                  [q % 3 for q in range(64)])
+
 LARGEST_RULE = rule(64, 0, 0, 256,
                     [[(q + a) % 64 for a in range(256)] for q in range(64)],
                     [[(u + p) % 64 for p in range(64)] for u in range(64)],
@@ -145,6 +169,12 @@ def deep(levels):
     return [OPEN] * levels + [CLOSE] * levels
 
 
+def chained(state):
+    """From state 0 of the chain of trees to this one: a tree that ends in a state
+    leads from it to the next."""
+    return chained(state - 1) + tree(chained(state - 1)) if state else []
+
+
 def bushy(count, letters):
     """At least so many events, well nested, a little of everything."""
     numbers = []
@@ -181,6 +211,13 @@ def document_cases():
                           ("gaps-no-tree-move", [0, 2, 1]),
                           ("gaps-no-tree-move-outside", [0, 0, 1, 1])]:
         yield name, GAPS + events(numbers)
+    yield "spare-skipped", SPARE + events([0, 2, 0, 2, 1, 2, 1, 3, 2])
+    yield "no-start-skipped", NO_START + events([2, 0, 2, 1, 2])
+    for name, numbers in [("met-later-letter-in-tree", [0, 2, 1]),
+                          ("met-later-not-still", [2, 0, 0, 2, 1, 1, 2])]:
+        yield name, MET_LATER + events(numbers)
+    for name, numbers in [("tree-chain", chained(6)), ("tree-chain-no-move", chained(6) + [0, 1])]:
+        yield name, TREE_CHAIN + events(numbers)
 
 
 def long_cases():

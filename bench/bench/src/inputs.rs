@@ -29,8 +29,9 @@ pub fn mixing(n: usize, k: usize) -> Rule {
     rule_by(n, k, 1 % n, |_, _| rng.below(n))
 }
 
-/// A letter leads from each state to the next, so that Reach is as long as it can
-/// be and every round of the maker but the last adds a state.
+/// A letter leads from each state to the next, so that Reach and the set of the
+/// tree start, state 0, are as long as they can be and every round of the maker
+/// but the last adds a state.
 pub fn chain(n: usize, k: usize) -> Rule {
     let mut rng = rng();
     rule_by(n, k, 0, |q, lower| match lower {

@@ -256,6 +256,25 @@ pub fn read_in_full(file: &[u8], store: &mut [Level], events: &[u16]) -> Fed {
     fed(events.len(), state, depth as u32, Outcome::AllTaken)
 }
 
+/// The states in which a tree can end, with a mark for each: a state that is met
+/// is tried with each state met before it, above it and below it.
+fn tree_ends(table: &Table) -> Vec<bool> {
+    let n = table.n;
+    let mut ends = vec![false; n];
+    let mut waiting: Vec<u8> = vec![table.tree_start];
+    while let Some(q) = waiting.pop() {
+        if q == NONE || ends[q as usize] {
+            continue;
+        }
+        ends[q as usize] = true;
+        waiting.extend(&table.letter_moves[q as usize * table.k..(q as usize + 1) * table.k]);
+        for met in (0..n).filter(|&p| ends[p]).map(|p| p as u8) {
+            waiting.extend([table.tree_move(q, met), table.tree_move(met, q)]);
+        }
+    }
+    ends
+}
+
 /// The maker over a vector of marks for each state.
 pub fn make_book_by_marks(file: &[u8], book: &mut [u64]) -> Result<u32, Refusal> {
     let table = Table::from_file(file)?;
@@ -263,13 +282,15 @@ pub fn make_book_by_marks(file: &[u8], book: &mut [u64]) -> Result<u32, Refusal>
     if book.len() < n + 1 {
         return Err(Refusal::new(6, 0));
     }
+    let ends = tree_ends(&table);
     let mut reach = vec![vec![false; n]; n];
     for q in 0..n {
         let mut waiting = vec![q];
         reach[q][q] = true;
         while let Some(p) = waiting.pop() {
             let letters = &table.letter_moves[p * table.k..(p + 1) * table.k];
-            let trees = &table.tree_moves[p * n..(p + 1) * n];
+            let row = &table.tree_moves[p * n..(p + 1) * n];
+            let trees = row.iter().zip(&ends).filter(|(_, &counts)| counts).map(|(to, _)| to);
             for &to in letters.iter().chain(trees) {
                 if to != NONE && !reach[q][to as usize] {
                     reach[q][to as usize] = true;
@@ -299,12 +320,14 @@ pub fn make_book_by_words(file: &[u8], book: &mut [u64]) -> Result<u32, Refusal>
     if book.len() < n + 1 {
         return Err(Refusal::new(6, 0));
     }
-    let set =
-        |moves: &[u8]| moves.iter().filter(|&&to| to != NONE).fold(0u64, |set, &to| set | 1 << to);
+    let ends = tree_ends(&table);
+    let with = |set: u64, to: u8| if to == NONE { set } else { set | 1 << to };
     let mut reach: Vec<u64> = (0..n)
         .map(|q| {
             let letters = &table.letter_moves[q * table.k..(q + 1) * table.k];
-            1 << q | set(letters) | set(&table.tree_moves[q * n..(q + 1) * n])
+            let set = letters.iter().fold(1 << q, |set, &to| with(set, to));
+            let trees = &table.tree_moves[q * n..(q + 1) * n];
+            (0..n).filter(|&low| ends[low]).fold(set, |set, low| with(set, trees[low]))
         })
         .collect();
     loop {

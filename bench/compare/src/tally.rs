@@ -16,7 +16,7 @@ pub const LINE: Can = &[7, 8, 10, 11, 12, 17, 18];
 /// Why some numbers are not brought out.
 const NEVER: &str = "\
 -: that call does not give the number.
-15: no call does. Reach begins with one state of at most 64, so the 64th round adds none.
+15: no call does. Both sets begin with one state at most, of at most 64, so the 64th round adds none.
 9, 13, 16: a whole document and a program read from a fresh reading with the largest ceiling,
     and 4,294,967,296 events are more than a program's record holds and than are asked here.";
 

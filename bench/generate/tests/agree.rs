@@ -4,7 +4,7 @@ use generate::calls::{random_call, random_writing, Call};
 use generate::events::well_nested;
 use generate::rules::random_rule;
 use generate::{join, rule_and_events, Inputs, Prng};
-use reader::book::reach;
+use reader::book::{reach, reach_with, tree_ends};
 use reader::calls::{report_by, Feed};
 use reader::check::{check_program_by, take_apart, LEVELS};
 use reader::positions::FullRun;
@@ -204,51 +204,89 @@ fn any_call_in_two_ways_and_in_parts() {
     }
 }
 
-/// Reach in rounds, each adding all states one move away, is the walk's Reach,
-/// and the 64th round never adds a state.
+/// All that rounds add to a set, each round all states one move away, and how
+/// many rounds add. The lower states are these, or the set so far.
+fn in_rounds(
+    rule: &Rule,
+    start: BTreeSet<usize>,
+    lowers: Option<&BTreeSet<usize>>,
+) -> (BTreeSet<usize>, usize) {
+    let mut found = start;
+    for rounds in 0.. {
+        let mut next = found.clone();
+        for &m in &found {
+            next.extend(rule.letter_moves[m].iter().flatten());
+            next.extend(lowers.unwrap_or(&found).iter().filter_map(|&low| rule.tree_moves[m][low]));
+        }
+        if next == found {
+            return (found, rounds);
+        }
+        found = next;
+    }
+    unreachable!("a set of states cannot grow for ever")
+}
+
+/// In rounds the states in which a tree can end and Reach are those that the
+/// reader finds otherwise, and the 64th round never adds a state.
 #[test]
-fn reach_in_rounds() {
+fn sets_in_rounds() {
     let mut rng = Prng::new(5, 0);
-    let mut most = 0;
+    let mut most = (0, 0);
     let mut check = |rule: &Rule| {
+        let (ends, rounds) = in_rounds(rule, rule.tree_start.into_iter().collect(), None);
+        assert_eq!(ends, tree_ends(rule));
+        most.0 = most.0.max(rounds);
         let walked = reach(rule);
         for q in 0..rule.n {
-            let mut found = BTreeSet::from([q]);
-            let mut rounds = 0;
-            loop {
-                let mut next = found.clone();
-                for &m in &found {
-                    next.extend(rule.letter_moves[m].iter().flatten());
-                    next.extend(rule.tree_moves[m].iter().flatten());
-                }
-                if next == found {
-                    break;
-                }
-                found = next;
-                rounds += 1;
-            }
-            assert!(rounds < 64);
-            most = most.max(rounds);
+            let (found, rounds) = in_rounds(rule, BTreeSet::from([q]), Some(&ends));
             assert_eq!(found, walked[q]);
+            most.1 = most.1.max(rounds);
         }
+        assert!(most.0 < 64 && most.1 < 64);
     };
     for _ in 0..many(300) {
         check(&random_rule(&mut rng));
     }
-    // The longest chain: 63 rounds add a state, the 64th does not.
-    let chain = Rule {
+    // The longest chain, by letters: 63 rounds add a state, the 64th does not.
+    let by_letters = Rule {
         n: 64,
         k: 1,
         initial: 0,
-        tree_start: None,
+        tree_start: Some(0),
         letter_moves: (0..64).map(|q| vec![Some((q + 1).min(63))]).collect(),
         tree_moves: vec![vec![None; 64]; 64],
         classes: vec![Class::Accept; 64],
     };
-    check(&chain);
-    assert_eq!(most, 63);
+    check(&by_letters);
+    // By trees whose lower state is the newest: the moves of the last wait for all rounds.
+    let mut by_trees = Rule { letter_moves: vec![vec![None]; 64], ..by_letters.clone() };
+    for q in 0..63 {
+        by_trees.tree_moves[q][q] = Some(q + 1);
+    }
+    by_trees.tree_moves[63][63] = Some(62);
+    check(&by_trees);
+    assert_eq!(most, (63, 63));
     let mut book = [0; 65];
-    assert_eq!(make_book(&chain.to_file(), &mut book), Ok(1));
+    assert_eq!(make_book(&by_letters.to_file(), &mut book), Ok(1));
+    assert_eq!(make_book(&by_trees.to_file(), &mut book), Ok(0));
+}
+
+/// The book with L2's lower states has at least the bits of the one with any:
+/// more is skipped, and nothing less. Often it has more.
+#[test]
+fn more_is_skipped() {
+    let mut rng = Prng::new(7, 0);
+    let mut more = 0;
+    for _ in 0..many(1000) {
+        let rule = random_rule(&mut rng);
+        let any = reach_with(&rule, &(0..rule.n).collect());
+        let own = reach(&rule);
+        for q in 0..rule.n {
+            assert!(own[q].is_subset(&any[q]));
+        }
+        more += (own != any) as u64;
+    }
+    assert!(more > many(100), "{more}");
 }
 
 /// A part that skipping takes at one settled level may be exchanged for any

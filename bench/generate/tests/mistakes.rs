@@ -4,7 +4,7 @@
 //! one it must agree on every input, with one the random inputs have to show it.
 
 use generate::Inputs;
-use reader::book::reach;
+use reader::book::{reach_with, tree_ends};
 use reader::{check_program, Rule};
 use std::collections::BTreeSet;
 
@@ -27,6 +27,11 @@ enum Mistake {
     OneRoundOnly,
     LettersOnly,
     NoneDoesNotHold,
+    AnyLowerState,
+    AnyLowerStateInTheSet,
+    TreeStartNotInItsSet,
+    StateGoneThroughOnce,
+    LowerStatesOfTheInitialState,
     // In skipping.
     StillSkipsItsClosingLook,
     HoldOfTheLevelTwoAbove,
@@ -48,7 +53,7 @@ enum Mistake {
 
 use Mistake::*;
 
-const ALL: [Mistake; 28] = [
+const ALL: [Mistake; 33] = [
     LengthBeforeKind,
     BodyCutBeforeLength,
     OddLengthAfterTheBody,
@@ -63,6 +68,11 @@ const ALL: [Mistake; 28] = [
     OneRoundOnly,
     LettersOnly,
     NoneDoesNotHold,
+    AnyLowerState,
+    AnyLowerStateInTheSet,
+    TreeStartNotInItsSet,
+    StateGoneThroughOnce,
+    LowerStatesOfTheInitialState,
     StillSkipsItsClosingLook,
     HoldOfTheLevelTwoAbove,
     TopHeldByItsOwnState,
@@ -152,28 +162,53 @@ fn records(input: &[u8], mistake: Mistake) -> Result<Vec<&[u8]>, (u8, usize)> {
     Ok(bodies)
 }
 
+/// The lower states that count in Reach.
+fn lowers(rule: &Rule, mistake: Mistake) -> BTreeSet<usize> {
+    let any: BTreeSet<usize> = (0..rule.n).collect();
+    let start = rule.tree_start;
+    match mistake {
+        AnyLowerState => any,
+        AnyLowerStateInTheSet => {
+            start.map(|q| reach_with(rule, &any)[q].clone()).unwrap_or_default()
+        }
+        TreeStartNotInItsSet => {
+            let mut set = tree_ends(rule);
+            set.retain(|&q| Some(q) != start);
+            set
+        }
+        StateGoneThroughOnce => {
+            let mut set = BTreeSet::new();
+            let mut met: Vec<usize> = start.into_iter().collect();
+            while let Some(q) = met.pop() {
+                if set.insert(q) {
+                    met.extend(rule.letter_moves[q].iter().flatten());
+                    met.extend(set.iter().filter_map(|&low| rule.tree_moves[q][low]));
+                }
+            }
+            set
+        }
+        LowerStatesOfTheInitialState => {
+            tree_ends(&Rule { tree_start: Some(rule.initial), ..rule.clone() })
+        }
+        _ => tree_ends(rule),
+    }
+}
+
 fn book(rule: &Rule, mistake: Mistake) -> Vec<u64> {
+    let lowers = lowers(rule, mistake);
     let step = |q: usize, trees: bool| -> BTreeSet<usize> {
         let mut found = BTreeSet::from([q]);
         found.extend(rule.letter_moves[q].iter().flatten());
         if trees {
-            found.extend(rule.tree_moves[q].iter().flatten());
+            found.extend(lowers.iter().filter_map(|&low| rule.tree_moves[q][low]));
         }
         found
     };
     let reach: Vec<BTreeSet<usize>> = match mistake {
         PresentStateOnly => (0..rule.n).map(|q| BTreeSet::from([q])).collect(),
         OneRoundOnly => (0..rule.n).map(|q| step(q, true)).collect(),
-        LettersOnly => {
-            let mut sets: Vec<BTreeSet<usize>> = (0..rule.n).map(|q| BTreeSet::from([q])).collect();
-            for _ in 0..64 {
-                for set in &mut sets {
-                    *set = set.iter().flat_map(|&q| step(q, false)).collect();
-                }
-            }
-            sets
-        }
-        _ => reach(rule),
+        LettersOnly => reach_with(rule, &BTreeSet::new()),
+        _ => reach_with(rule, &lowers),
     };
     let mut words = vec![0; rule.n + 1];
     for p in 0..rule.n {

@@ -14,15 +14,41 @@ pub struct Book {
     pub hold: Vec<BTreeSet<usize>>,
 }
 
+/// The states in which a tree can end: the least set that holds the tree start,
+/// if there is one, and every state got from a member by a letter move or by a
+/// tree move with a lower state from that very set. Found state by state: one
+/// that is met is tried with each state met before it, as the upper state and as
+/// the lower one, since a move may have waited for it as its lower state.
+pub fn tree_ends(rule: &Rule) -> BTreeSet<usize> {
+    let mut ends = BTreeSet::new();
+    let mut met: Vec<usize> = rule.tree_start.into_iter().collect();
+    while let Some(q) = met.pop() {
+        if !ends.insert(q) {
+            continue;
+        }
+        met.extend(rule.letter_moves[q].iter().flatten());
+        for &other in &ends {
+            met.extend(rule.tree_moves[q][other]);
+            met.extend(rule.tree_moves[other][q]);
+        }
+    }
+    ends
+}
+
 /// Reach(q) for each state q: the least set that holds q and every state got
-/// from a member by a letter move or by a tree move with any lower state of the
-/// rule. None adds nothing. Found by a walk, depth first, over the graph of
-/// single moves.
+/// from a member by a letter move or by a tree move with a lower state in which
+/// a tree can end. None adds nothing, and with no tree start no tree move counts.
+/// Found by a walk, depth first, over the graph of single moves.
 pub fn reach(rule: &Rule) -> Vec<BTreeSet<usize>> {
+    reach_with(rule, &tree_ends(rule))
+}
+
+/// The same with these lower states.
+pub fn reach_with(rule: &Rule, lowers: &BTreeSet<usize>) -> Vec<BTreeSet<usize>> {
     let mut edges = vec![vec![false; rule.n]; rule.n];
     for q in 0..rule.n {
-        let moves = rule.letter_moves[q].iter().chain(&rule.tree_moves[q]);
-        for target in moves.flatten() {
+        let trees = lowers.iter().map(|&lower| &rule.tree_moves[q][lower]);
+        for target in rule.letter_moves[q].iter().chain(trees).flatten() {
             edges[q][*target] = true;
         }
     }

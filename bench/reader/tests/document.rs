@@ -59,11 +59,44 @@ fn rule_a_is_read_and_written() {
     assert_eq!(rule.to_file(), RULE_A);
 }
 
+/// The tree move of 0 waits for lower state 1, which a letter brings, and that of 1
+/// for lower state 2, which that tree move brings.
+fn met_later() -> Rule {
+    let mut tree_moves = vec![vec![None; 3]; 3];
+    tree_moves[0][1] = Some(2);
+    tree_moves[1][2] = Some(0);
+    Rule {
+        n: 3,
+        k: 1,
+        initial: 0,
+        tree_start: Some(0),
+        letter_moves: vec![vec![Some(1)], vec![None], vec![None]],
+        tree_moves,
+        classes: vec![Class::Accept; 3],
+    }
+}
+
+#[test]
+fn states_in_which_a_tree_can_end() {
+    let ends = |rule: &Rule| book::tree_ends(rule).into_iter().collect::<Vec<_>>();
+    assert_eq!(ends(&Rule::from_file(&RULE_A).unwrap()), [0, 1, 2]);
+    assert_eq!(ends(&rule_b()), [1, 2]);
+    assert_eq!(ends(&rule_c()), []);
+    assert_eq!(ends(&met_later()), [0, 1, 2]);
+}
+
 #[test]
 fn books() {
     assert_eq!(book_of(&RULE_A), [6, 4, 7, 7]);
     assert_eq!(book_of(&rule_b().to_file()), [4, 7, 7, 7]);
     assert_eq!(book_of(&rule_c().to_file()), [4, 0, 7, 7]);
+    // L2: with no tree start no tree move counts in Reach; in hold's own question they do.
+    let no_start = [
+        5, 0, 0, 0, 1, 0, 2, 0, 255, 1, 0, 2, 0, 0, 0, 2, 0, 0, 1, 4, 0, 0, 0, 3, 0, 1, 0, 0, 1, 2,
+        0, 0, 0, 4, 0, 1, 2,
+    ];
+    assert_eq!(book_of(&no_start), [3, 2, 2]);
+    assert_eq!(book_of(&met_later().to_file()), [4, 4, 0, 7]);
     let mut book = [99; 6];
     assert_eq!(make_book(&RULE_A, &mut book), Ok(2));
     assert_eq!(book, [6, 4, 7, 7, 99, 99]);

@@ -1,6 +1,8 @@
--- The laws that the proofs of the maker cite: sets as words, the tables walked, rounds, the words of the book, the answers.
+-- The laws that the proofs of the maker cite: sets as words, the tables walked, rounds, the set of the tree start, the words of
+-- the book, the answers.
 pub mod Standing
 pub mod Walked
 pub mod InRounds
+pub mod EndSet
 pub mod BookWords
 pub mod Makes

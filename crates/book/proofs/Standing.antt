@@ -2,7 +2,7 @@
 -- its lowest member. Each is a law of bits said of all 64.
 use mathlib.Core.Path.{_≡_, refl, sym, ap, ap₂, _∙_, subst}
 use mathlib.Core.Logic.{⊎-elim}
-use mathlib.Core.Bool.{Bool, true, false, not, _&&_, _||_, false≢true}
+use mathlib.Core.Bool.{Bool, true, false, not, _&&_, _||_, false≢true, or-assoc}
 use mathlib.Core.List.{List}
 use Prim.Native.Nat.{ℕ, _+_, _-_, _^_, _≤_, _<_}
 use native.Mathlib.Nat.{not-suc-le-zero}
@@ -19,8 +19,8 @@ use Rattle.meaning.specs.SkipBook.{anyBelow, bit, marked, wordOf}
 use Rattle.meaning.proofs.laws.Answered.{and-true, both-true}
 use Rattle.meaning.proofs.laws.Truths.{truth, same-truth, true-is-not-false, or-cases, or-true-left, or-true-right}
 use Rattle.meaning.proofs.laws.Bools.{last-or-below, below-any, any-below, any-below-fails}
-use Rattle.meaning.proofs.skipbook.Bits.{bit-zero, bit-or, bit-only, bit-past, word-of, lowest, cleared, cleared-less}
-use Rattle.book.specs.Sets.{StandsFor, joined, firstOf}
+use Rattle.meaning.proofs.skipbook.Bits.{bit-zero, bit-or, bit-and, bit-only, bit-past, word-of, lowest, cleared, cleared-less}
+use Rattle.book.specs.Sets.{StandsFor, StatesOf, joined, firstOf}
 
 pub stands-empty : StandsFor 0 (λ p. false)
 unfolding StandsFor
@@ -120,41 +120,67 @@ module _ (w : ℕ) (pos : 0 < w) (h : w < 2 ^ 64) (f : ℕ → Bool) where
   unfolding members others
   lowest-first = same-truth members (f (trailingZeros 64 w) || others) there back
 
-or-assoc : (a b c : Bool) → (a || b || c) ≡ (a || (b || c))
-or-assoc true b c = refl
-or-assoc false b c = refl
-
-or-none : (a : Bool) {b : Bool} → b ≡ false → (a || b) ≡ a
+pub or-none : (a : Bool) {b : Bool} → b ≡ false → (a || b) ≡ a
 or-none true e = refl
 or-none false e = e
 
--- ---- a turn that joins what the table has for the lowest member
+-- the lowest member is a state, and so are the others
+pub lowest-state : (n w : ℕ) → 0 < w → w < 2 ^ 64 → StatesOf n w → trailingZeros 64 w < n
+unfolding StatesOf
+lowest-state n w pos h s = s (trailingZeros 64 w) (lowest 64 w pos h .member)
 
-pub record Turn (table : List ℕ) (set all rest : ℕ) : Type 0 where
+pub rest-states : (n w : ℕ) → StatesOf n w → StatesOf n (bitAnd w (w - 1))
+unfolding StatesOf
+rest-states n w s p e = s p (and-true (bit w p) _ (sym (bit-and w (w - 1) p) ∙ e) .0)
+
+-- where the members are the first n states at most, some member is some of these
+pub members-below : (n w : ℕ) (f : ℕ → Bool) → n ≤ 64 → StatesOf n w
+    → anyBelow 64 (λ m. bit w m && f m) ≡ anyBelow n (λ m. bit w m && f m)
+unfolding StatesOf
+members-below n w f few s =
+    same-truth _ _
+    (λ t. let a = any-below 64 (λ m. bit w m && f m) t in
+    below-any n (λ m. bit w m && f m) (a .0) (s (a .0) (and-true (bit w (a .0)) _ (a .2) .0)) (a .2))
+    (λ t. let a = any-below n (λ m. bit w m && f m) t in below-any 64 (λ m. bit w m && f m) (a .0) (omega (arith, a .1)) (a .2))
+
+-- ---- a turn that joins what the lowest member has
+
+-- what is joined so far, with what each member of the rest has, is all that is to be joined
+pub record Turn (has : ℕ → ℕ → Bool) (whole : ℕ → Bool) (all rest : ℕ) : Type 0 where
   pub small : rest < 2 ^ 64
-  pub same : (p : ℕ) → p < 64 → (bit all p || anyBelow 64 (λ m. bit rest m && bit (getD table m 0) p)) ≡ joined table set p
+  pub same : (p : ℕ) → p < 64 → (bit all p || anyBelow 64 (λ m. bit rest m && has m p)) ≡ whole p
 
-pub turn-first : (table : List ℕ) (set : ℕ) → set < 2 ^ 64 → Turn table set set set
+module _ (has : ℕ → ℕ → Bool) (whole : ℕ → Bool) (all rest : ℕ) where
+  pub turn-next : (more : ℕ) → 0 < rest → StandsFor more (has (trailingZeros 64 rest)) → Turn has whole all rest
+      → Turn has whole (bitOr all more) (bitAnd rest (rest - 1))
+  unfolding StandsFor
+  turn-next more pos s t =
+      record {
+        small = omega (arith, cleared-less rest pos, t .small);
+        same = λ p l. let left : Bool = anyBelow 64 (λ m. bit (bitAnd rest (rest - 1)) m && has m p) in
+            ap (λ (b : Bool). b || left) (bit-or all more p ∙ ap (λ (b : Bool). bit all p || b) (s p l))
+            ∙ or-assoc (bit all p) (has (trailingZeros 64 rest) p) left
+            ∙ ap (λ (b : Bool). bit all p || b) (sym (lowest-first rest pos (t .small) (λ m. has m p)))
+            ∙ t .same p l;
+      }
+
+  pub turn-last : rest ≡ 0 → Turn has whole all rest → StandsFor all whole
+  unfolding StandsFor
+  turn-last e t p h =
+      sym (or-none (bit all p) (any-below-fails 64 _ (λ m l. ap (λ (w : ℕ). bit w m && has m p) e ∙ ap (λ (b : Bool). b && has m p) (bit-zero m))))
+      ∙ t .same p h
+
+-- the members of a set joined to it, with a table of what each has
+abbrev pub tableHas : List ℕ → ℕ → ℕ → Bool
+tableHas table m p = bit (getD table m 0) p
+
+pub table-first : (table : List ℕ) (set : ℕ) → set < 2 ^ 64 → Turn (tableHas table) (joined table set) set set
 unfolding joined
-turn-first table set h = record { small = h; same = λ p l. refl }
+table-first table set h = record { small = h; same = λ p l. refl }
 
-pub turn-next : (table : List ℕ) (set all rest : ℕ) → 0 < rest → Turn table set all rest
-    → Turn table set (bitOr all (getD table (trailingZeros 64 rest) 0)) (bitAnd rest (rest - 1))
-turn-next table set all rest pos t =
-    record {
-      small = omega (arith, cleared-less rest pos, t .small);
-      same = λ p l. let left : Bool = anyBelow 64 (λ m. bit (bitAnd rest (rest - 1)) m && bit (getD table m 0) p) in
-          ap (λ (b : Bool). b || left) (bit-or all (getD table (trailingZeros 64 rest) 0) p)
-          ∙ or-assoc (bit all p) (bit (getD table (trailingZeros 64 rest) 0) p) left
-          ∙ ap (λ (b : Bool). bit all p || b) (sym (lowest-first rest pos (t .small) (λ m. bit (getD table m 0) p)))
-          ∙ t .same p l;
-    }
-
-pub turn-last : (table : List ℕ) (set all rest : ℕ) → rest ≡ 0 → Turn table set all rest → StandsFor all (joined table set)
+pub stands-itself : (w : ℕ) → StandsFor w (bit w)
 unfolding StandsFor
-turn-last table set all rest e t p h =
-    sym (or-none (bit all p) (any-below-fails 64 _ (λ m l. ap (λ (w : ℕ). bit w m && bit (getD table m 0) p) e ∙ ap (λ (b : Bool). b && bit (getD table m 0) p) (bit-zero m))))
-    ∙ t .same p h
+stands-itself w p h = refl
 
 -- ---- a table of 64 words that is filled from the front
 

@@ -1,7 +1,7 @@
 -- The tables of an accepted file, walked: what each look finds is the rule's move, so the words that are joined stand for the
 -- states one move away.
 use mathlib.Core.Path.{_≡_, refl, sym, ap, ap₂, _∙_}
-use mathlib.Core.Bool.{Bool, true, false, not, _&&_}
+use mathlib.Core.Bool.{Bool, not, _&&_, _||_}
 use mathlib.Core.List.{List}
 use Prim.Native.Nat.{ℕ, _+_, _^_, _≤_, _<_}
 use native.Mathlib.Omega.{arith}
@@ -9,20 +9,20 @@ use lib.Bits.{bitOr}
 use borrow.Author.Tests.{ne-eqb}
 use Rattle.meaning.specs.Answers.{_=?_}
 use Rattle.meaning.specs.RuleFile as format
-use Rattle.meaning.specs.RuleFile.{Move, none, asMove, letterMove, treeMove, ruleOf}
-use Rattle.meaning.specs.SkipBook.{anyBelow, goesTo, noneOr}
-use Rattle.meaning.proofs.laws.Bools.{any-below-same}
-use Rattle.meaning.proofs.skipbook.Rounds.{counts, most-states}
+use Rattle.meaning.specs.RuleFile.{Move, none, asMove, letterMove, treeMove, treeStartMove, ruleOf}
+use Rattle.meaning.specs.SkipBook.{anyBelow, goesTo, noneOr, bit}
+use Rattle.meaning.proofs.skipbook.Rounds.{most-states}
+use Rattle.meaning.proofs.skipbook.Bits.{bit-zero}
 use Rattle.meaning.proofs.rulefile.Accepted.{accepted-is-rule}
 use Rattle.rule.specs.declared.Rule.{Rule}
 use Rattle.rule.specs.Says.{numbersOf, RuleOf}
-use Rattle.rule.specs.declared.tables.Table.the-variants.{LetterMoves, TreeMoves}
+use Rattle.rule.specs.declared.tables.Table.the-variants.{LetterMoves, TreeStart, TreeMoves}
 use Rattle.rule.specs.declared.tables.Move as tables
 use Rattle.rule.specs.declared.tables.Move.the-variants as found
 use Rattle.rule.specs.Tables.{letterByte, treeByte, moveSays, moveIn}
 use Rattle.rule.proofs.Looks.{found-is, letter-look, tree-look}
-use Rattle.book.specs.Sets.{StandsFor, stateOrNone, byLetters, byTrees, firstOf, changing}
-use Rattle.book.proofs.Standing.{stands-as, stands-only, stands-empty, stands-more}
+use Rattle.book.specs.Sets.{StandsFor, StatesOf, stateOrNone, byLetters, byTrees, firstOf, changing}
+use Rattle.book.proofs.Standing.{stands-as, stands-only, stands-empty, stands-more, members-below, Turn}
 
 -- ---- what a look finds, and the state that it leads to
 
@@ -52,6 +52,10 @@ pub walk-next : (move : ℕ → Move) (i set w : ℕ) {m : Move} → m ≡ move 
 walk-next move i set w e s t =
     stands-more set w i (λ j p. goesTo p (move j)) s (rw e at t)
 
+-- what a lower state has for an upper one
+abbrev pub treeHas : format.Rule → ℕ → ℕ → ℕ → Bool
+treeHas R u m p = goesTo p (treeMove R u m)
+
 -- ---- the moves of an accepted file
 
 module _ {file : List ℕ} {rule : Rule} (ok : RuleOf file rule) where
@@ -62,6 +66,10 @@ module _ {file : List ℕ} {rule : Rule} (ok : RuleOf file rule) where
   pub letters-are : ruleOf file .letters ≡ rule .letters
   unfolding numbersOf
   letters-are = ap (λ (r : Rule). r .letters) (ok .numbers)
+
+  -- a rule has at most 64 states
+  pub few-states : rule .states ≤ 64
+  few-states = omega (arith, most-states (accepted-is-rule file (ok .accepted)), states-are)
 
   -- what was found among the letter moves, and among the tree moves
   pub letter-is : (q a : ℕ) {found : tables.Move} → found ≡ moveIn LetterMoves (letterByte file (rule .letters) q a)
@@ -80,18 +88,38 @@ module _ {file : List ℕ} {rule : Rule} (ok : RuleOf file rule) where
       ∙ ap₂ (λ (n k : ℕ). asMove (treeByte file n k u q)) (sym states-are) (sym letters-are)
       ∙ tree-look file (ok .accepted) u q (rw states-are hu) (rw states-are hq)
 
-  -- all letters, and all lower states
+  pub start-is : {found : tables.Move} → found ≡ moveIn TreeStart (rule .«tree_start») → moveSays found ≡ treeStartMove (ruleOf file)
+  unfolding numbersOf treeStartMove
+  start-is read =
+      ap moveSays read ∙ found-is TreeStart _ ∙ ap (λ (r : Rule). asMove (r .«tree_start»)) (sym (ok .numbers))
+
+  pub start-goes : (w : ℕ) {found : tables.Move} → found ≡ moveIn TreeStart (rule .«tree_start»)
+      → StandsFor w (λ p. goesTo p (moveSays found)) → StandsFor w (λ p. goesTo p (treeStartMove (ruleOf file)))
+  start-goes w read s = stands-as w _ _ (λ p h. ap (goesTo p) (start-is read)) s
+
+  -- all letters
   pub letters-walked : (q set : ℕ) → Walked (letterMove (ruleOf file) q) (rule .letters) set → StandsFor set (byLetters (ruleOf file) q)
   unfolding byLetters
   letters-walked q set s =
       stands-as set _ _ (λ p h. ap (λ (k : ℕ). anyBelow k (λ a. goesTo p (letterMove (ruleOf file) q a))) (sym letters-are)) s
 
-  pub trees-walked : (q set : ℕ) → Walked (treeMove (ruleOf file) q) (rule .states) set → StandsFor set (byTrees (ruleOf file) q)
+  -- the members of a set of lower states, before the first: nothing is joined
+  pub trees-first : (u lowers : ℕ) → lowers < 2 ^ 64 → StatesOf (rule .states) lowers
+      → Turn (treeHas (ruleOf file) u) (byTrees (ruleOf file) lowers u) 0 lowers
   unfolding byTrees
-  trees-walked q set s =
+  trees-first u lowers small states =
       let R : format.Rule = ruleOf file in
-      stands-as set _ _ (λ p h. ap (λ (n : ℕ). anyBelow n (λ l. goesTo p (treeMove R q l))) (sym states-are)
-      ∙ any-below-same (R .states) _ _ (λ l below. sym (ap (λ (b : Bool). b && goesTo p (treeMove R q l)) (counts R l .1 below)))) s
+      record {
+        small = small;
+        same = λ p h. ap (λ (b : Bool). b || anyBelow 64 (λ m. bit lowers m && goesTo p (treeMove R u m))) (bit-zero p)
+            ∙ members-below (rule .states) lowers (λ m. goesTo p (treeMove R u m)) few-states states
+            ∙ ap (λ (n : ℕ). anyBelow n (λ m. bit lowers m && goesTo p (treeMove R u m))) (sym states-are);
+      }
+
+  -- what the look with a lower state finds leads where that lower state does
+  pub tree-goes : (u m w : ℕ) {found : tables.Move} → found ≡ moveIn TreeMoves (treeByte file (rule .states) (rule .letters) u m)
+      → u < rule .states → m < rule .states → StandsFor w (λ p. goesTo p (moveSays found)) → StandsFor w (treeHas (ruleOf file) u m)
+  tree-goes u m w read hu hm s = stands-as w _ _ (λ p h. ap (goesTo p) (tree-is u m read hu hm)) s
 
   -- all lower states gathered
   pub changes-gathered : (u set : ℕ) → StandsFor set (firstOf (rule .states) (λ p. not (noneOr u (treeMove (ruleOf file) u p))))
@@ -99,7 +127,3 @@ module _ {file : List ℕ} {rule : Rule} (ok : RuleOf file rule) where
   unfolding changing
   changes-gathered u set s =
       stands-as set _ _ (λ p h. ap (λ (n : ℕ). firstOf n (λ l. not (noneOr u (treeMove (ruleOf file) u l))) p) (sym states-are)) s
-
-  -- a rule has at most 64 states
-  pub few-states : rule .states ≤ 64
-  few-states = omega (arith, most-states (accepted-is-rule file (ok .accepted)), states-are)

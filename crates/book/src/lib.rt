@@ -1,4 +1,5 @@
-// The maker of skip books: it checks the rule, finds Reach in rounds in its own room, and writes the book last.
+// The maker of skip books: it checks the rule, finds the states in which a tree can end and then Reach in rounds in its own
+// room, and writes the book last.
 mod moves;
 mod rounds;
 mod sets;
@@ -37,9 +38,10 @@ fn make_for(file: &[u8], rule: Rule, book: &mut [u64]) -> Made
             place: 0,
         });
     }
-    let moves = moves::all_moves(file, rule);
+    let ends = rounds::tree_ends(file, rule);
+    let moves = ends.moves;
     let reach = rounds::reach_from_all(&moves, states);
-    if rounds::last_adds(&moves, &reach, states) {
+    if rounds::last_adds(&moves, ends.set, &reach, states) {
         return Made::Refused(Refusal {
             number: ROUNDS_USED_UP,
             place: 0,

@@ -6,12 +6,13 @@ use rule::Rule;
 use rule::tables::Move;
 ghost use mathlib.Core.Path.{_≡_};
 ghost use mathlib.Core.Bool.{not};
+ghost use mathlib.Core.List.{[]};
 ghost use Prim.Native.Nat.{_<_};
 ghost use Rattle.meaning.specs.RuleFile.{ruleOf};
-ghost use Rattle.meaning.specs.SkipBook.{goesTo, noneOr, oneMove};
+ghost use Rattle.meaning.specs.SkipBook.{goesTo, noneOr};
 ghost use Rattle.rule.specs.Says.{RuleOf};
 ghost use Rattle.rule.specs.Tables.{moveSays};
-ghost use Rattle.book.specs.Sets.{StandsFor, Moves, stateOrNone, byLetters, byTrees, changing};
+ghost use Rattle.book.specs.Sets.{StandsFor, StatesOf, Moves, WithTrees, stateOrNone, byLetters, byTrees, changing};
 
 // The state that a move leads to, or none. By way of it a look and what is made of it compile to one read and one test.
 fn state_or_none(found: Move) -> u8
@@ -24,7 +25,7 @@ fn state_or_none(found: Move) -> u8
 }
 
 // The state that a move leads to, as a set: empty where there is none.
-fn target(found: Move) -> u64
+pub fn target(found: Move) -> u64
     ensures { λ r. ⌜ StandsFor r (λ p. goesTo p (moveSays found)) ⌝ }
 {
     let state = state_or_none(found);
@@ -50,43 +51,51 @@ fn by_letters(file: &[u8], rule: Rule, state: u8) -> u64
     set
 }
 
-// The states that the lower states lead to from an upper state.
-fn by_trees(file: &[u8], rule: Rule, upper: u8) -> u64
+// For each state the states that the letters lead to: the moves with no lower state. The letter table is walked once.
+pub fn letter_moves(file: &[u8], rule: Rule) -> [u64; 64]
     requires { ⌜ RuleOf (now file) rule ⌝ }
-    requires { ⌜ upper < rule .states ⌝ }
-    ensures { λ r. ⌜ StandsFor r (byTrees (ruleOf (now (file .entry))) upper) ⌝ }
-{
-    let mut set: u64 = 0;
-    let mut lower: u8 = 0;
-    while lower < rule.states {
-        set |= target(rule::tables::tree_move(file, rule, upper, lower));
-        lower += 1;
-    }
-    set
-}
-
-// The states one move away from a state.
-fn moves_from(file: &[u8], rule: Rule, state: u8) -> u64
-    requires { ⌜ RuleOf (now file) rule ⌝ }
-    requires { ⌜ state < rule .states ⌝ }
-    ensures { λ r. ⌜ StandsFor r (oneMove (ruleOf (now (file .entry))) state) ⌝ }
-{
-    let letters = by_letters(file, rule, state);
-    letters | by_trees(file, rule, state)
-}
-
-// For each state the states one move away from it.
-pub fn all_moves(file: &[u8], rule: Rule) -> [u64; 64]
-    requires { ⌜ RuleOf (now file) rule ⌝ }
-    ensures { λ r. ⌜ Moves (ruleOf (now (file .entry))) r ⌝ }
+    ensures { λ r. ⌜ Moves (ruleOf (now (file .entry))) [] r ⌝ }
 {
     let mut table = no_sets();
     let mut state: u8 = 0;
     while state < rule.states {
-        table[state as usize] = moves_from(file, rule, state);
+        table[state as usize] = by_letters(file, rule, state);
         state += 1;
     }
     table
+}
+
+// The states that the lower states of a set lead to from an upper state.
+fn by_trees(file: &[u8], rule: Rule, upper: u8, lowers: u64) -> u64
+    requires { ⌜ RuleOf (now file) rule ⌝ }
+    requires { ⌜ upper < rule .states ⌝ }
+    requires { ⌜ StatesOf (rule .states) lowers ⌝ }
+    ensures { λ r. ⌜ StandsFor r (byTrees (ruleOf (now (file .entry))) lowers upper) ⌝ }
+{
+    let mut set: u64 = 0;
+    let mut rest = lowers;
+    while rest != 0 {
+        let lower = u64::trailing_zeros(rest) as u8;
+        set |= target(rule::tables::tree_move(file, rule, upper, lower));
+        rest &= rest - 1;
+    }
+    set
+}
+
+// The table, and in it the tree moves with the lower states of a set.
+pub fn with_trees(file: &[u8], rule: Rule, table: &[u64; 64], lowers: u64) -> [u64; 64]
+    requires { ⌜ RuleOf (now file) rule ⌝ }
+    requires { ⌜ StatesOf (rule .states) lowers ⌝ }
+    ensures { λ r. ⌜ WithTrees (ruleOf (now (file .entry))) lowers (now (table .entry)) r ⌝ }
+{
+    let mut more = no_sets();
+    let mut upper: u8 = 0;
+    while upper < rule.states {
+        let own = table[upper as usize];
+        more[upper as usize] = own | by_trees(file, rule, upper, lowers);
+        upper += 1;
+    }
+    more
 }
 
 // Whether a tree move leads from its upper state to another one.

@@ -18,7 +18,8 @@ pub fn book_a() -> [u64; 4] {
     book
 }
 
-fn fresh_a() -> Reading {
+// A fresh reading whose initial state is 0.
+pub fn fresh_a() -> Reading {
     Reading {
         state: 0,
         depth: 0,
@@ -29,7 +30,7 @@ fn fresh_a() -> Reading {
 }
 
 // What feeding refused, or else the end of the reading and its looks.
-fn told(name: &[u8], outcome: Outcome) {
+pub fn told(name: &[u8], outcome: Outcome) {
     let fed = outcome.fed;
     let ended = fed.ended;
     let after = fed.reading;

@@ -119,7 +119,7 @@ pub fn writings() {
 }
 
 // The book of so many bytes of a file.
-fn book_of(name: &[u8], file: &[u8], count: usize) {
+pub fn book_of(name: &[u8], file: &[u8], count: usize) {
     let mut book = [0u64; 4];
     if count <= file.len() {
         let answer = book::make_book(&file[0..count], &mut book);

@@ -1,6 +1,7 @@
 // The cases of document 01 that are not proved, and those of the requests: each call is made, and what it answers is printed.
 // The expected lines stand in the file stdout.
 mod documents;
+mod ends;
 mod files;
 mod largest;
 mod lines;
@@ -13,7 +14,9 @@ fn main() {
     files::rule_checks();
     files::writings();
     files::books();
-    largest::case();
+    largest::letters();
+    largest::trees();
+    ends::cases();
     documents::cases();
     documents::full_case();
     missing::moves();

@@ -5,3 +5,4 @@ pub mod Rounds
 pub mod Bits
 pub mod BookLong
 pub mod BookMade
+pub mod MoreSkipped

@@ -1,5 +1,6 @@
 -- The cases marked P of document 01, "Two small rules", as one table: the books of rules A and B, and what skipping and full
--- reading make of some events. `proofs/Cases.antt` proves the whole table by one statement.
+-- reading make of some events; with them three small rules that tell which lower states count in Reach. `proofs/Cases.antt`
+-- proves the whole table by one statement.
 use Prim.Native.Nat.{ℕ}
 use mathlib.Core.Bool.{Bool, true, false, _&&_}
 use mathlib.Core.List.{List, [], _∷_}
@@ -30,6 +31,43 @@ ruleB =
       letterMoves = 2 ∷ 2 ∷ 2 ∷ [];
       treeMoves = 255 ∷ 255 ∷ 0 ∷ 255 ∷ 255 ∷ 255 ∷ 255 ∷ 255 ∷ 255 ∷ [];
       classes = 2 ∷ 0 ∷ 1 ∷ [];
+    })
+
+-- no tree start, letters that stay and trees that do not: no tree move counts in Reach, but hold(u) asks for them
+unfoldable pub ruleNoStart : List ℕ
+ruleNoStart =
+    0x05 ∷ 0x00 ∷ 0x00 ∷ 0x00 ∷ 0x01 ∷ 0x00 ∷ 0x02 ∷ 0x00 ∷ 0xFF ∷ 0x01 ∷ 0x00
+    ∷ 0x02 ∷ 0x00 ∷ 0x00 ∷ 0x00 ∷ 0x02 ∷ 0x00 ∷ 0x00 ∷ 0x01
+    ∷ 0x04 ∷ 0x00 ∷ 0x00 ∷ 0x00 ∷ 0x03 ∷ 0x00 ∷ 0x01 ∷ 0x00 ∷ 0x00 ∷ 0x01
+    ∷ 0x02 ∷ 0x00 ∷ 0x00 ∷ 0x00 ∷ 0x04 ∷ 0x00 ∷ 0x01 ∷ 0x02 ∷ []
+
+-- tree start 0, a letter leads from 0 to 1, and a tree move of 0 waits for lower state 1: it leads to 2, for which one of 1 waits
+unfoldable pub ruleMetLater : List ℕ
+ruleMetLater =
+    ruleBytes
+    (record {
+      states = 3;
+      initial = 0;
+      treeStart = 0;
+      letters = 1;
+      letterMoves = 1 ∷ 255 ∷ 255 ∷ [];
+      treeMoves = 255 ∷ 2 ∷ 255 ∷ 255 ∷ 255 ∷ 0 ∷ 255 ∷ 255 ∷ 255 ∷ [];
+      classes = 2 ∷ 2 ∷ 2 ∷ [];
+    })
+
+-- 0 outside of trees, 1 inside them, and the spare state 2, in which no tree can end; with it as lower state all tree moves lead
+-- to 2
+unfoldable pub ruleSpare : List ℕ
+ruleSpare =
+    ruleBytes
+    (record {
+      states = 3;
+      initial = 0;
+      treeStart = 1;
+      letters = 2;
+      letterMoves = 0 ∷ 1 ∷ 1 ∷ 1 ∷ 2 ∷ 2 ∷ [];
+      treeMoves = 255 ∷ 0 ∷ 2 ∷ 255 ∷ 1 ∷ 2 ∷ 2 ∷ 2 ∷ 2 ∷ [];
+      classes = 2 ∷ 1 ∷ 0 ∷ [];
     })
 
 -- how a reading ends: the verdict's class, the end state and the looks
@@ -89,7 +127,7 @@ sameEnd (given a) (refused number place) = false
 sameEnd (refused number place) (given b) = false
 sameEnd (refused number place) (refused number′ place′) = number =? number′ && place =? place′
 
--- the room that the book is made in is no longer than the book, so that nothing else stands in it
+-- the room that the book is made in is that of three states, and a word past the book stays 0
 unfoldable pub holds : Row → Bool
 holds (theBook file book count) =
     let room : List ℕ = replicate 4 0 in
@@ -107,6 +145,9 @@ unfoldable pub theCases : List Row
 theCases =
     theBook ruleA (6 ∷ 4 ∷ 7 ∷ 7 ∷ []) 2
     ∷ theBook ruleB (4 ∷ 7 ∷ 7 ∷ 7 ∷ []) 1
+    ∷ theBook ruleNoStart (3 ∷ 2 ∷ 2 ∷ 0 ∷ []) 2
+    ∷ theBook ruleMetLater (4 ∷ 4 ∷ 0 ∷ 7 ∷ []) 1
+    ∷ theBook ruleSpare (6 ∷ 3 ∷ 3 ∷ 7 ∷ []) 2
     -- A1 to A6
     ∷ bothEnd ruleA [] (reject 0 0) (reject 0 0)
     ∷ bothEnd ruleA (0 ∷ 3 ∷ 1 ∷ []) (accept 2 3) (accept 2 3)

@@ -7,20 +7,23 @@ use mathlib.Core.List.{List, [], _∷_, _++_}
 use lib.ListN.{length, getD, drop}
 use lib.Count.{ones}
 use Rattle.meaning.specs.Answers.{Answer, given, refused, refuse_at_when_otherwise_, _andThen_, _giving_, _<?_, _=?_}
-use Rattle.meaning.specs.RuleFile.{Rule, Move, noMove, to, letterMove, treeMove, checkRule, ruleOf}
+use Rattle.meaning.specs.RuleFile.{Rule, Move, noMove, to, letterMove, treeMove, treeStartMove, checkRule, ruleOf}
 
 -- ---- Reach
 
--- the lower states that count: any lower state of the rule
-unfoldable pub canEndTree : Rule → ℕ → Bool
-canEndTree R lower = lower <? R .states
+-- The states in which a tree can end: the least set that holds the tree start, if there is one, and every state got from a
+-- member by a letter move or by a tree move with a lower state from that very set.
+pub data CanEndTree (R : Rule) : ℕ → Type 0 where
+  startEnds : {p : ℕ} → treeStartMove R ≡ to p → CanEndTree R p
+  letterEnds : {p p′ : ℕ} (a : ℕ) → CanEndTree R p → a < R .letters → letterMove R p a ≡ to p′ → CanEndTree R p′
+  treeEnds : {p p′ : ℕ} (lower : ℕ) → CanEndTree R p → CanEndTree R lower → treeMove R p lower ≡ to p′ → CanEndTree R p′
 
 -- Reach(q), the least set that holds q and every state got from a member by a letter move or by a tree move with a lower
--- state that counts. None adds nothing.
+-- state in which a tree can end. None adds nothing, and if the tree start is none, no tree move counts.
 pub data Reach (R : Rule) (q : ℕ) : ℕ → Type 0 where
   itself : Reach R q q
   byLetter : {p p′ : ℕ} (a : ℕ) → Reach R q p → a < R .letters → letterMove R p a ≡ to p′ → Reach R q p′
-  byTree : {p p′ : ℕ} (lower : ℕ) → Reach R q p → canEndTree R lower ≡ true → treeMove R p lower ≡ to p′ → Reach R q p′
+  byTree : {p p′ : ℕ} (lower : ℕ) → Reach R q p → CanEndTree R lower → treeMove R p lower ≡ to p′ → Reach R q p′
 
 -- ---- still and hold
 
@@ -37,7 +40,7 @@ noneOr u (to q) = q =? u
 unfoldable pub Hold : Rule → ℕ → ℕ → Type 0
 Hold R u p = (p′ : ℕ) → Reach R p p′ → noneOr u (treeMove R u p′) ≡ true
 
--- ---- Reach in rounds, with a mark for each state, state 0 first
+-- ---- the sets in rounds, with a mark for each state, state 0 first
 
 -- true of some number below n; true of every number below n
 unfoldable pub anyBelow : ℕ → (ℕ → Bool) → Bool
@@ -60,38 +63,54 @@ unfoldable pub goesTo : ℕ → Move → Bool
 goesTo p noMove = false
 goesTo p (to q) = q =? p
 
--- p′ is one move away from p
-unfoldable pub oneMove : Rule → ℕ → ℕ → Bool
-oneMove R p p′ =
+-- p′ is one move away from p, by a letter or by a tree whose lower state is marked
+unfoldable pub oneMove : Rule → List Bool → ℕ → ℕ → Bool
+oneMove R lowers p p′ =
     anyBelow (R .letters) (λ a. goesTo p′ (letterMove R p a))
-    || anyBelow (R .states) (λ lower. canEndTree R lower && goesTo p′ (treeMove R p lower))
+    || anyBelow (R .states) (λ lower. marked lowers lower && goesTo p′ (treeMove R p lower))
 
 -- a round adds all states one move away
-unfoldable pub round : Rule → List Bool → List Bool
-round R marks =
-    listed (R .states) (λ p′. marked marks p′ || anyBelow (R .states) (λ p. marked marks p && oneMove R p p′))
+unfoldable pub round : Rule → List Bool → List Bool → List Bool
+round R lowers marks =
+    listed (R .states) (λ p′. marked marks p′ || anyBelow (R .states) (λ p. marked marks p && oneMove R lowers p p′))
 
-unfoldable pub rounds : Rule → ℕ → List Bool → List Bool
-rounds R zero marks = marks
-rounds R (suc i) marks = round R (rounds R i marks)
+-- so many rounds
+unfoldable pub rounds : (List Bool → List Bool) → ℕ → List Bool → List Bool
+rounds step zero marks = marks
+rounds step (suc i) marks = step (rounds step i marks)
 
+abbrev pub mostRounds : ℕ
+mostRounds = 64
+
+-- The states in which a tree can end: from the tree start, if there is one, with lower states from the set so far.
+unfoldable pub startMarks : Rule → List Bool
+startMarks R = listed (R .states) (λ p. goesTo p (treeStartMove R))
+
+unfoldable pub endRound : Rule → List Bool → List Bool
+endRound R marks = round R marks marks
+
+unfoldable pub endsIn : Rule → ℕ → List Bool
+endsIn R i = rounds (endRound R) i (startMarks R)
+
+unfoldable pub endMarks : Rule → List Bool
+endMarks R = endsIn R mostRounds
+
+-- Reach(q): from q alone, with lower states in which a tree can end.
 unfoldable pub onlyState : Rule → ℕ → List Bool
 onlyState R q = listed (R .states) (λ p. p =? q)
 
--- the states marked after so many rounds from q
 unfoldable pub reachedIn : Rule → ℕ → ℕ → List Bool
-reachedIn R i q = rounds R i (onlyState R q)
+reachedIn R i q = let lowers : List Bool = endMarks R in rounds (round R lowers) i (onlyState R q)
 
 -- some state is marked in the second and not in the first
 unfoldable pub adds : Rule → List Bool → List Bool → Bool
 adds R before after = anyBelow (R .states) (λ p. marked after p && not (marked before p))
 
-abbrev pub mostRounds : ℕ
-mostRounds = 64
-
--- the 64th round, from some state, still adds a state
+-- the 64th round still adds a state, to the set of the tree start or from some state
 unfoldable pub roundsUsedUp : Rule → Bool
-roundsUsedUp R = anyBelow (R .states) (λ q. adds R (reachedIn R 63 q) (reachedIn R mostRounds q))
+roundsUsedUp R =
+    adds R (endsIn R 63) (endsIn R mostRounds)
+    || anyBelow (R .states) (λ q. adds R (reachedIn R 63 q) (reachedIn R mostRounds q))
 
 -- ---- the book
 

@@ -15,7 +15,7 @@ use Rattle.meaning.specs.RuleFile.{Rule, IsRule, to, letterMove, treeMov
 use Rattle.meaning.specs.FullReading.{Event, opens, closes, letter, eventOf, letterTable, startTable, treeTable, freshRun, fullRun}
 use Rattle.meaning.specs.FullReading.{Turn, ends, looked, newLevel, fullTurn, knownEvent, fullEvent, fullStep}
 use Rattle.meaning.specs.FullReading.{Run, innermost, outer, runAfter, freshReading}
-use Rattle.meaning.specs.SkipBook.{canEndTree, Reach, inStill, IsBook}
+use Rattle.meaning.specs.SkipBook.{CanEndTree, Reach, inStill, IsBook}
 use Rattle.meaning.specs.Skipping.{held, settled, passed, endsLevel, settledTurn, skipTurn, skipEvent, skipStep, skipRun}
 use Rattle.meaning.specs.PassedOver.{levelHeld, levelSettled, outsideSettled, closesStill, passedOver}
 use Rattle.meaning.specs.PassedOver.{thenCount, notPassedOver}
@@ -36,7 +36,7 @@ use Rattle.meaning.proofs.laws.Following.{giving-each, follows-so, wher
 -- level, in Reach(q); or inside it, in states that can end a tree.
 pub data Ahead (R : Rule) (q : ℕ) : ℕ → List Level → Type 0 where
   here : {x : ℕ} → Reach R q x → Ahead R q x []
-  inside : {x : ℕ} {l : Level} {τ : List Level} → canEndTree R x ≡ true → Ahead R q (l .above) τ → Ahead R q x (l ∷ τ)
+  inside : {x : ℕ} {l : Level} {τ : List Level} → CanEndTree R x → Ahead R q (l .above) τ → Ahead R q x (l ∷ τ)
 
 -- the levels outside the one where skipping stands: none is settled
 pub data Outside (R : Rule) (book : List ℕ) : List Level → Type 0 where
@@ -74,15 +74,15 @@ module _ {R : Rule} (rule : IsRule R) {q : ℕ} where
   ahead-letter : {x : ℕ} {τ : List Level} (a : ℕ) {y : ℕ} → Ahead R q x τ → a < R .letters → letterMove R x a ≡ to y
       → Ahead R q y τ
   ahead-letter a (here reach) known leads = here (reach-letter a reach known leads)
-  ahead-letter a (inside {x} can rest) known leads = inside (letter-ends-tree rule x a can known leads) rest
+  ahead-letter a (inside can rest) known leads = inside (letter-ends-tree a can known leads) rest
 
   ahead-open : (l : Level) {τ : List Level} {y : ℕ} → Ahead R q (l .above) τ → treeStartMove R ≡ to y → Ahead R q y (l ∷ τ)
-  ahead-open l rest leads = inside (start-ends-tree rule leads) rest
+  ahead-open l rest leads = inside (start-ends-tree leads) rest
 
-  back-out : {u : ℕ} {τ : List Level} (x : ℕ) {y : ℕ} → Ahead R q u τ → canEndTree R x ≡ true → treeMove R u x ≡ to y
+  back-out : {u : ℕ} {τ : List Level} (x : ℕ) {y : ℕ} → Ahead R q u τ → CanEndTree R x → treeMove R u x ≡ to y
       → Ahead R q y τ
   back-out x (here reach) can leads = here (reach-tree x reach can leads)
-  back-out x (inside {x = u} can′ rest) can leads = inside (tree-ends-tree rule u x can′ can leads) rest
+  back-out x (inside can′ rest) can leads = inside (tree-ends-tree x can′ can leads) rest
 
   ahead-close : {x : ℕ} {l : Level} {τ : List Level} {y : ℕ} → Ahead R q x (l ∷ τ) → treeMove R (l .above) x ≡ to y
       → Ahead R q y τ

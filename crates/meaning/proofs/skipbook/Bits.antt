@@ -1,7 +1,7 @@
 -- Laws of words and their bits, digit by digit, lowest first: bit 0 is the remainder by 2, and bit p + 1 is bit p of the half.
 use mathlib.Core.Path.{_≡_, refl, sym, ap, ap₂, _∙_}
 use mathlib.Core.Logic.{⊎-elim}
-use mathlib.Core.Bool.{Bool, true, false, not, _&&_, _||_}
+use mathlib.Core.Bool.{Bool, true, false, not, _&&_, _||_, xor}
 use mathlib.Core.List.{List, [], _∷_}
 use Prim.Native.Nat.{ℕ, zero, suc, _+_, _-_, _*_, _/_, _%_, _^_, _≤_, _<_, min, max}
 use native.Mathlib.Nat.{div-one, pow-suc, div-eq-of-lt, lt-of-lt-of-le}
@@ -11,7 +11,7 @@ use lib.Dec.{eqb·zero-suc, eqb·suc-zero, eqb·suc-suc}
 use lib.ListN.{length}
 use lib.Arith.{bin-ind}
 use lib.Pow.{shr-shr, pow-mono}
-use lib.Bits.{bitAnd, bitOr, and-step, or-step, and-le-r}
+use lib.Bits.{bitAnd, bitOr, bitXor, differ, and-step, or-step, xor-step, and-le-r}
 use lib.Count.{trailingZeros, under}
 use borrow.Author.Tests.{eqb-true, eqb-false}
 use Rattle.meaning.specs.Answers.{_=?_}
@@ -86,7 +86,7 @@ pub bit-past : (k w p : ℕ) → w < 2 ^ k → k ≤ p → bit w p ≡ false
 unfolding bit
 bit-past k w p h l = ap (λ (x : ℕ). x % 2 =? 1) (div-eq-of-lt (lt-of-lt-of-le h (pow-mono l)))
 
--- ---- or and and, bit by bit
+-- ---- or, and, and where two words differ, bit by bit
 
 by-digit : (P : ℕ → Type 0) → P 0 → P 1 → (x : ℕ) → x < 2 → P x
 by-digit P p0 p1 zero h = p0
@@ -122,6 +122,13 @@ bit-and =
     bit-op bitAnd min (λ x y. x && y) and-step
     (by-digits (λ x y. min x y < 2) (omega arith) (omega arith) (omega arith) (omega arith))
     (by-digits (λ x y. (min x y =? 1) ≡ (x =? 1 && y =? 1)) refl refl refl refl)
+
+pub bit-xor : (a b p : ℕ) → bit (bitXor a b) p ≡ xor (bit a p) (bit b p)
+unfolding xor
+bit-xor =
+    bit-op bitXor differ (λ x y. xor x y) xor-step
+    (by-digits (λ x y. differ x y < 2) (omega arith) (omega arith) (omega arith) (omega arith))
+    (by-digits (λ x y. (differ x y =? 1) ≡ xor (x =? 1) (y =? 1)) refl refl refl refl)
 
 -- ---- a single member
 

@@ -1,25 +1,25 @@
 -- The book of a rule is its skip book: its sets are the rule's own still and hold(u). A word has the bits of its marks, the
--- marks test all of Reach, and where rounds are not used up the marks of Reach are Reach.
+-- marks test all of Reach, and the marks of Reach are Reach.
 use mathlib.Core.Path.{_≡_, sym, ap, _∙_, subst}
 use mathlib.Core.Logic.{_↔_}
-use mathlib.Core.Bool.{Bool, true, false, not, _||_}
+use mathlib.Core.Bool.{Bool, true, not, _||_}
 use mathlib.Core.List.{List, _++_}
 use Prim.Native.Nat.{ℕ, zero, suc, _+_, _^_, _≤_, _<_}
 use native.Mathlib.Numerals.{one-add, add-one}
 use lib.Count.{ones}
 use lib.ListN.{length, getD, drop, List·getD-append}
 use lib.Pow.{pow-pos}
-use borrow.Author.Tests.{eqb-true, eq-eqb, le-ltb}
+use borrow.Author.Tests.{eqb-true, eq-eqb}
 use Rattle.meaning.specs.Answers.{given, _=?_}
 use Rattle.meaning.specs.RuleFile.{Rule, IsRule, treeMove, checkRule, ruleOf}
-use Rattle.meaning.specs.SkipBook.{Reach, Still, Hold, noneOr, allBelow, listed, marked, adds, reachedIn, reachMarks, roundsUsedUp, stillMarks, holdMarks, wordOf, bit, bookOf, inStill, inHold, IsBook, makeBook, bookAfter}
-use Rattle.meaning.proofs.laws.Answered.{refuse-given, refuse-passes, giving-given, giving-passes}
+use Rattle.meaning.specs.SkipBook.{Reach, Still, Hold, noneOr, allBelow, listed, marked, reachMarks, stillMarks, holdMarks, wordOf, bit, bookOf, inStill, inHold, IsBook, makeBook, bookAfter}
+use Rattle.meaning.proofs.laws.Answered.{refuse-passes, giving-given, giving-passes}
 use Rattle.meaning.proofs.rulefile.Accepted.{accepted-rule, accepted-is-rule}
 use Rattle.meaning.proofs.laws.Truths.{implied, implies}
-use Rattle.meaning.proofs.laws.Bools.{no-below-any, all-below, below-all, listed-length, listed-at}
-use Rattle.meaning.proofs.skipbook.BookLong.{long-passes, long-given}
+use Rattle.meaning.proofs.laws.Bools.{all-below, below-all, listed-length, listed-at}
+use Rattle.meaning.proofs.skipbook.BookLong.{long-passes}
 use Rattle.meaning.proofs.skipbook.Marks.{listed-each, marked-below}
-use Rattle.meaning.proofs.skipbook.Rounds.{marks-are-reach, never-used-up}
+use Rattle.meaning.proofs.skipbook.Rounds.{marks-are-reach, reach-never-used-up, never-used-up}
 use Rattle.meaning.proofs.skipbook.Reaching.{reach-below}
 use Rattle.meaning.proofs.skipbook.Bits.{bit-word, word-below}
 
@@ -65,10 +65,9 @@ module _ (R : Rule) (rest : List ℕ) where
       ∙ List·getD-append holds rest 0 u (rw listed-length h) ∙ listed-at (R .states) _ u 0 h in
       ap (λ (w : ℕ). bit w p) here ∙ bit-word (holdMarks R u) p
 
-module _ (R : Rule) (rule : IsRule R) (fine : roundsUsedUp R ≡ false) where
+module _ (R : Rule) (rule : IsRule R) where
   reach-of : (q : ℕ) → q < R .states → (p : ℕ) → (marked (reachMarks R q) p ≡ true) ↔ Reach R q p
-  unfolding roundsUsedUp
-  reach-of q h = marks-are-reach R rule q h (no-below-any (R .states) (λ s. adds R (reachedIn R 63 s) (reachedIn R 64 s)) fine q h)
+  reach-of q h = marks-are-reach R rule q h (reach-never-used-up R rule q h)
 
   -- what holds of all marks of Reach(q) holds of all of Reach(q)
   all-of-reach : (test : ℕ → Bool) (q : ℕ) → q < R .states
@@ -109,10 +108,8 @@ unfolding makeBook bookAfter
 maker-writes file book e =
     let accepted = giving-given (checkRule file) _ e in
     let R : Rule = accepted .0 in
-    let room = long-given R book _ (accepted .2) in
-    let rounds = refuse-given 15 0 _ _ (room .1) in
     subst (λ (S : Rule). IsBook S (bookAfter (makeBook file book) S book)) (sym (accepted-rule file (accepted .1)))
-    (rw (e, bookAfter) (made-is-book R (accepted-is-rule file (accepted .1)) (rounds .0) (drop (R .states + 1) book)))
+    (rw (e, bookAfter) (made-is-book R (accepted-is-rule file (accepted .1)) (drop (R .states + 1) book)))
 
 -- and every accepted file has its book made, where there is room for it
 pub always-made : (file book : List ℕ) {R : Rule} → checkRule file ≡ given R → R .states + 1 ≤ length book

@@ -7,11 +7,11 @@ use mathlib.Core.List.{List, [], _∷_}
 use Prim.Native.Nat.{ℕ, zero, suc, _<_}
 use native.Mathlib.Omega.{arith}
 use lib.ListN.{length, getD}
-use borrow.Author.Tests.{eqb-true, ltb-true, lt-ltb}
+use borrow.Author.Tests.{eqb-true, ltb-true}
 use Rattle.meaning.specs.Answers.{_<?_, _=?_, if_then_else_}
 use Rattle.meaning.specs.RuleFile.{Rule, IsRule, isMove, isState, none, noMove, to, asMove}
 use Rattle.meaning.specs.RuleFile.{letterMove, treeMove, treeStartMove}
-use Rattle.meaning.specs.SkipBook.{canEndTree, Reach, itself, byLetter, byTree, Still, Hold, noneOr, inStill, inHold, IsBook}
+use Rattle.meaning.specs.SkipBook.{CanEndTree, startEnds, letterEnds, treeEnds, Reach, itself, byLetter, byTree, Still, Hold, noneOr, inStill, inHold, IsBook}
 use Rattle.meaning.proofs.laws.Truths.{or-true-first, true-is-not-false}
 
 -- ---- where a move leads
@@ -58,25 +58,43 @@ module _ {R : Rule} (rule : IsRule R) where
   unfolding isState
   initial-below = ltb-true (R .initial) (R .states) (rule .initialIn)
 
--- ---- the states that can end a tree
+-- ---- the states in which a tree can end
 
 -- Full reading has only such states inside an open tree: the tree start is one, and so is where a letter move leads from
 -- one, or a tree move whose lower state is one too.
-module _ {R : Rule} (rule : IsRule R) where
-  ends-tree : {q : ℕ} → q < R .states → canEndTree R q ≡ true
-  unfolding canEndTree
-  ends-tree {q} low = lt-ltb q (R .states) low
+module _ {R : Rule} where
+  pub start-ends-tree : {q : ℕ} → treeStartMove R ≡ to q → CanEndTree R q
+  start-ends-tree leads = startEnds leads
 
-  pub start-ends-tree : {q : ℕ} → treeStartMove R ≡ to q → canEndTree R q ≡ true
-  start-ends-tree leads = ends-tree (start-below rule leads)
+  pub letter-ends-tree : {p : ℕ} (a : ℕ) {q : ℕ} → CanEndTree R p → a < R .letters → letterMove R p a ≡ to q → CanEndTree R q
+  letter-ends-tree a ends known leads = letterEnds a ends known leads
 
-  pub letter-ends-tree : (p a : ℕ) {q : ℕ} → canEndTree R p ≡ true → a < R .letters → letterMove R p a ≡ to q
-      → canEndTree R q ≡ true
-  letter-ends-tree p a ends known leads = ends-tree (letter-below rule p a leads)
+  pub tree-ends-tree : {p : ℕ} (lower : ℕ) {q : ℕ} → CanEndTree R p → CanEndTree R lower → treeMove R p lower ≡ to q
+      → CanEndTree R q
+  tree-ends-tree lower ends below leads = treeEnds lower ends below leads
 
-  pub tree-ends-tree : (p lower : ℕ) {q : ℕ} → canEndTree R p ≡ true → canEndTree R lower ≡ true → treeMove R p lower ≡ to q
-      → canEndTree R q ≡ true
-  tree-ends-tree p lower ends below leads = ends-tree (tree-below rule p lower leads)
+  -- these states lie in every set that holds the tree start and is closed under such moves
+  pub ends-least : (S : ℕ → Type 0) → ((p : ℕ) → treeStartMove R ≡ to p → S p)
+      → ((p a p′ : ℕ) → S p → a < R .letters → letterMove R p a ≡ to p′ → S p′)
+      → ((p lower p′ : ℕ) → S p → S lower → treeMove R p lower ≡ to p′ → S p′)
+      → {x : ℕ} → CanEndTree R x → S x
+  ends-least S start letters trees (startEnds {p} leads) = start p leads
+  ends-least S start letters trees (letterEnds {p} {p′} a ends known leads) =
+      letters p a p′ (ends-least S start letters trees ends) known leads
+  ends-least S start letters trees (treeEnds {p} {p′} lower ends below leads) =
+      trees p lower p′ (ends-least S start letters trees ends) (ends-least S start letters trees below) leads
+
+  -- they are states of the rule
+  pub ends-below : IsRule R → {q : ℕ} → CanEndTree R q → q < R .states
+  ends-below rule ends =
+      ends-least (λ x. x < R .states) (λ p. start-below rule) (λ p a p′ h known. letter-below rule p a)
+      (λ p lower p′ h k. tree-below rule p lower) ends
+
+  -- with no tree start there is none
+  pub no-start-no-ends : treeStartMove R ≡ noMove → {q : ℕ} → CanEndTree R q → ⊥
+  no-start-no-ends none ends =
+      ends-least (λ x. ⊥) (λ p leads. let z : _≡_ {A = ℕ} 0 1 = cc in omega arith) (λ p a p′ h known leads. h)
+      (λ p lower p′ h k leads. h) ends
 
 -- ---- Reach
 
@@ -87,14 +105,14 @@ module _ {R : Rule} where
   pub reach-letter : {q p : ℕ} (a : ℕ) {p′ : ℕ} → Reach R q p → a < R .letters → letterMove R p a ≡ to p′ → Reach R q p′
   reach-letter a within known leads = byLetter a within known leads
 
-  pub reach-tree : {q p : ℕ} (lower : ℕ) {p′ : ℕ} → Reach R q p → canEndTree R lower ≡ true → treeMove R p lower ≡ to p′
+  pub reach-tree : {q p : ℕ} (lower : ℕ) {p′ : ℕ} → Reach R q p → CanEndTree R lower → treeMove R p lower ≡ to p′
       → Reach R q p′
   reach-tree lower within ends leads = byTree lower within ends leads
 
   -- Reach lies in every set that holds its start and is closed under moves
   pub reach-least : {q : ℕ} (S : ℕ → Type 0) → S q
       → ((p a p′ : ℕ) → S p → a < R .letters → letterMove R p a ≡ to p′ → S p′)
-      → ((p lower p′ : ℕ) → S p → canEndTree R lower ≡ true → treeMove R p lower ≡ to p′ → S p′)
+      → ((p lower p′ : ℕ) → S p → CanEndTree R lower → treeMove R p lower ≡ to p′ → S p′)
       → {x : ℕ} → Reach R q x → S x
   reach-least S start letters trees itself = start
   reach-least S start letters trees (byLetter {p} {p′} a within known leads) =

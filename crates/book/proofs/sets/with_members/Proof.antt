@@ -5,18 +5,19 @@ use native.Mathlib.Omega.{arith}
 use Prim.Native.Nat.{_<_}
 use lib.Count.{trailingZeros}
 use Rattle.meaning.proofs.skipbook.Bits.{lowest, cleared-less}
-use Rattle.book.proofs.Standing.{Turn, turn-first, turn-next, turn-last}
+use Rattle.book.specs.Sets.{joined}
+use Rattle.book.proofs.Standing.{Turn, tableHas, table-first, stands-itself, turn-next, turn-last}
 use Rattle.book.proofs.sets.with_members.Statement.{statement}
 use Rattle.book.proofs.sets.with_members.Tie as tie
 
 abbrev Inv-loop : tie.InvT-loop
-Inv-loop table set all₀ rest₀ all rest = Turn table set all rest
+Inv-loop table set all₀ rest₀ all rest = Turn (tableHas table) (joined table set) all rest
 
 abbrev μ-loop : tie.MeasureT-loop
 μ-loop table set all₀ rest₀ all rest = rest
 
 loop-holds : tie.Need-loop-holds Inv-loop μ-loop
-loop-holds c = turn-first _ _ (c .fits .set .fits)
+loop-holds c = table-first _ _ (c .fits .set .fits)
 
 low : (c : tie.In-loop Inv-loop μ-loop) → trailingZeros 64 (c .before .loop .rest) < 64
 low c = lowest 64 (c .before .loop .rest) (omega arith) (c .before .loop .inv .small) .below
@@ -37,7 +38,7 @@ loop-less : tie.Need-loop-less Inv-loop μ-loop
 loop-less c = cleared-less (c .before .before .loop .rest) (omega arith)
 
 loop-again : tie.Need-loop-again Inv-loop μ-loop
-loop-again c = turn-next _ _ _ (c .before .before .loop .rest) (omega arith) (c .before .before .loop .inv)
+loop-again c = turn-next _ _ _ (c .before .before .loop .rest) _ (omega arith) (stands-itself _) (c .before .before .loop .inv)
 
 returns : tie.Need-returns Inv-loop μ-loop
 returns c = turn-last _ _ _ (c .before .loop .rest) (c .loop-test .left) (c .before .loop .inv)

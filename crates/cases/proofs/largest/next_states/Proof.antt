@@ -8,16 +8,16 @@ use Rattle.cases.proofs.largest.next_states.Statement.{statement}
 use Rattle.cases.proofs.largest.next_states.Tie as tie
 
 abbrev Inv-loop : tie.InvT-loop
-Inv-loop moves₀ i₀ moves i = length moves ≡ length moves₀
+Inv-loop moves₀ of_letters i₀ moves i = length moves ≡ length moves₀
 
 abbrev μ-loop : tie.MeasureT-loop
-μ-loop moves₀ i₀ moves i = length moves₀ - i
+μ-loop moves₀ of_letters i₀ moves i = length moves₀ - i
 
 loop-holds : tie.Need-loop-holds Inv-loop μ-loop
 loop-holds c = refl
 
-next-of-requires : tie.Need-next-of-requires Inv-loop μ-loop
-next-of-requires c κs = tt
+move-at-requires : tie.Need-move-at-requires Inv-loop μ-loop
+move-at-requires c κs = tt
 
 slice-write-moves : tie.Need-slice-write-moves Inv-loop μ-loop
 slice-write-moves c = omega arith
@@ -44,7 +44,7 @@ next-states-spec =
     Inv-loop
     μ-loop
     loop-holds
-    next-of-requires
+    move-at-requires
     slice-write-moves
     add-i
     loop-less

@@ -1,6 +1,7 @@
--- `book::moves::all_moves` meets its contract. The loop's invariant: the table has its set for each state so far.
+-- `book::moves::letter_moves` meets its contract. The loop's invariant: the table has its set for each state so far.
 -- Assumes nothing.
 use borrow.Author.Needs.{needs}
+use mathlib.Core.List.{[]}
 use Prim.Native.Nat.{_≤_, _<_, _-_}
 use native.Mathlib.Omega.{arith}
 use Rattle.meaning.specs.RuleFile.{ruleOf}
@@ -8,12 +9,13 @@ use Rattle.meaning.specs.SkipBook.{oneMove}
 use Rattle.book.specs.Sets.{StandsFor, Moves}
 use Rattle.book.proofs.Standing.{Filled, filled-first, filled-next}
 use Rattle.book.proofs.Walked.{few-states, states-are}
-use Rattle.book.proofs.moves.all_moves.Statement.{statement}
-use Rattle.book.proofs.moves.all_moves.Tie as tie
+use Rattle.book.proofs.EndSet.{letters-alone}
+use Rattle.book.proofs.moves.letter_moves.Statement.{statement}
+use Rattle.book.proofs.moves.letter_moves.Tie as tie
 
 abbrev Inv-loop : tie.InvT-loop
 Inv-loop file rule table₀ state₀ table state =
-    (state ≤ rule .states) × Filled (λ q w. StandsFor w (oneMove (ruleOf file) q)) state table
+    (state ≤ rule .states) × Filled (λ q w. StandsFor w (oneMove (ruleOf file) [] q)) state table
 
 abbrev μ-loop : tie.MeasureT-loop
 μ-loop file rule table₀ state₀ table state = rule .states - state
@@ -24,10 +26,10 @@ no-sets-requires c κs = search needs
 loop-holds : tie.Need-loop-holds Inv-loop μ-loop
 loop-holds c = (omega arith, filled-first _ _ (c .no-sets .ensures))
 
-moves-from-requires : tie.Need-moves-from-requires Inv-loop μ-loop
-moves-from-requires c κs = search needs
+by-letters-requires : tie.Need-by-letters-requires Inv-loop μ-loop
+by-letters-requires c κs = search needs
 
-below : (c : tie.After-moves-from Inv-loop μ-loop) → c .before .before .before .loop .state < 64
+below : (c : tie.After-by-letters Inv-loop μ-loop) → c .before .before .before .loop .state < 64
 below c = omega (arith, few-states (c .before .before .before .before .before .before .pre))
 
 cast-table : tie.Need-cast-table Inv-loop μ-loop
@@ -46,7 +48,7 @@ loop-less : tie.Need-loop-less Inv-loop μ-loop
 loop-less c = omega arith
 
 loop-again : tie.Need-loop-again Inv-loop μ-loop
-loop-again c = (omega arith, filled-next _ _ _ _ (below c) (c .before .before .before .loop .inv .1) (c .moves-from .ensures))
+loop-again c = (omega arith, filled-next _ _ _ _ (below c) (c .before .before .before .loop .inv .1) (letters-alone _ _ _ (c .by-letters .ensures)))
 
 returns : tie.Need-returns Inv-loop μ-loop
 unfolding Moves
@@ -54,15 +56,15 @@ returns c q h =
     let loop = c .before .before .loop in
     loop .inv .1 .each q (omega (arith, states-are (c .before .before .before .before .before .pre)))
 
-pub all-moves-spec : {M : Type 1} → statement M
-all-moves-spec =
+pub letter-moves-spec : {M : Type 1} → statement M
+letter-moves-spec =
     tie.close
     (tie.spec
     Inv-loop
     μ-loop
     no-sets-requires
     loop-holds
-    moves-from-requires
+    by-letters-requires
     cast-table
     mul-table
     array-write-table
