@@ -38,19 +38,6 @@ use Rattle.turning.proofs.Steps.{reading-in, turn-ready}
 
 -- ---- a run that was passed over leaves a reading
 
--- the next event may count on what the run could count on
-pub passed-ready : {file : List ℕ} {rule : Rule} {book : List ℕ} {r : Reading} {top : Level} {events : List ℕ} {next : ℕ} {p : PassedTo}
-    → PassesOver (rule .letters) book r top events next p → Ready file rule book r top → Ready file rule book (p .reading) top
-unfolding passedOn
-passed-ready o h =
-    rw (o .same)
-    (record {
-      ruled = h .ruled;
-      bookLong = h .bookLong;
-      states = record { stateIn = h .states .stateIn; aboveIn = h .states .aboveIn };
-      counted = record { levelsTaken = o .nested; looksTaken = omega (arith, h .counted .looksTaken) };
-    })
-
 -- and the level stands as it stood
 pub passed-stands : {k : ℕ} {book : List ℕ} {r : Reading} {top : Level} {events : List ℕ} {next : ℕ} {p : PassedTo} {isHeld isSettled : Bool}
     → PassesOver k book r top events next p → Stands book r top isHeld isSettled → Stands book (p .reading) top isHeld isSettled
@@ -91,6 +78,24 @@ module _ {file : List ℕ} {rule : Rule} {book : List ℕ} {r : Reading} {store 
       → r .taken ≤ p .reading .taken
   unfolding passedOn
   passed-more o = rw (o .same) (omega arith)
+
+-- the next event may count on what the run could count on
+pub passed-ready : {file : List ℕ} {rule : Rule} {book : List ℕ} {r : Reading} {top : Level} {events : List ℕ} {next : ℕ} {p : PassedTo}
+    → PassesOver (rule .letters) book r top events next p → Ready file rule book r top → Ready file rule book (p .reading) top
+unfolding passedOn
+passed-ready {file} {rule} {book} {r} {top} {events} {next} {p} o h =
+    let store = h .somewhere .0 in
+    let feeds = h .somewhere .1 in
+    let isTop = h .somewhere .2 in
+    let after = passed-feeds feeds (rw (← isTop) at o) in
+    let same = passed-top feeds o isTop in
+    record {
+      ruled = h .ruled;
+      bookLong = h .bookLong;
+      states = rw (o .same) (record { stateIn = h .states .stateIn; aboveIn = h .states .aboveIn });
+      counted = rw (o .same) (record { levelsTaken = o .nested; looksTaken = omega (arith, h .counted .looksTaken) });
+      somewhere = (store, after, same);
+    }
 
 -- ---- the turns
 

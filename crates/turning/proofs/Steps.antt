@@ -1,6 +1,6 @@
 -- One event over the level store, from what its turn says: the turn may count on what number 13 lets through, and what it
 -- says becomes of reading and store is the definition's step.
-use mathlib.Core.Path.{_≡_}
+use mathlib.Core.Path.{_≡_, refl}
 use mathlib.Core.Bool.{true}
 use mathlib.Core.List.{List}
 use Prim.Native.Nat.{ℕ, _-_, _<_}
@@ -42,6 +42,7 @@ module _ {file : List ℕ} {rule : Rule} {book : List ℕ} {r : Reading} {store 
           aboveIn = λ inside. state-in (i .aboveIn (r .depth - 1) (omega arith));
         };
         counted = record { levelsTaken = i .nested; looksTaken = i .looksIn };
+        somewhere = (store, h, refl);
       }
 
 -- ---- the definition's step, from the turn

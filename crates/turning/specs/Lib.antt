@@ -1,3 +1,4 @@
 pub mod Turns
 pub mod PassingOver
 pub mod Advancing
+pub mod ReadingAhead

@@ -8,7 +8,7 @@ use Rattle.meaning.specs.Answers.{Answer, given, refused, if_then_else_, _=?_, 
 use Rattle.meaning.specs.FullReading as full
 use Rattle.meaning.specs.FullReading.{stays, stores, names, ends, mostEvents, noMoveNumber}
 use Rattle.meaning.specs.RuleFile.{ruleOf}
-use Rattle.meaning.specs.Calls.{Stored, notReading}
+use Rattle.meaning.specs.Calls.{Stored, notReading, topOf}
 use Rattle.meaning.specs.Skipping.{held, settled}
 use Rattle.meaning.specs.declared.Reading.{Reading}
 use Rattle.meaning.specs.declared.Level.{Level}
@@ -58,12 +58,19 @@ pub record OneMore (r : Reading) : Type 0 where
   pub counted : Counted r
   pub more : r .taken < mostEvents
 
+-- what feeding may count on: the rule, its book, and a reading that number 13 lets through
+pub record Feeds (file : List ℕ) (rule : Rule) (book : List ℕ) (r : Reading) (store : List Level) : Type 0 where
+  pub ruled : RuleOf file rule
+  pub bookLong : rule .states < length book
+  pub isReading : notReading (ruleOf file) book r store ≡ false
+
 -- what one event may count on: the rule, its book, and what number 13 lets through
 pub record Ready (file : List ℕ) (rule : Rule) (book : List ℕ) (r : Reading) (top : Level) : Type 0 where
   pub ruled : RuleOf file rule
   pub bookLong : rule .states < length book
   pub states : StatesIn rule r top
   pub counted : Counted r
+  pub somewhere : (store : List Level) × Feeds file rule book r store × (topOf r store ≡ top)
 
 -- the book has a word for still and one for the state above, if there is one, and each word has a bit for the state
 pub record BookServes (book : List ℕ) (r : Reading) (top : Level) : Type 0 where
@@ -75,12 +82,6 @@ pub record BookServes (book : List ℕ) (r : Reading) (top : Level) : Type 0 whe
 pub record Stands (book : List ℕ) (r : Reading) (top : Level) (isHeld isSettled : Bool) : Type 0 where
   pub heldIs : isHeld ≡ held book r top
   pub settledIs : isSettled ≡ settled book r top
-
--- what feeding may count on: the rule, its book, and a reading that number 13 lets through
-pub record Feeds (file : List ℕ) (rule : Rule) (book : List ℕ) (r : Reading) (store : List Level) : Type 0 where
-  pub ruled : RuleOf file rule
-  pub bookLong : rule .states < length book
-  pub isReading : notReading (ruleOf file) book r store ≡ false
 
 -- a reading over a store
 abbrev pub over : Reading → List Level → Stored

@@ -2,6 +2,7 @@
 use crate::Advance;
 use crate::Going;
 use crate::Turn;
+use crate::ahead::read_ahead;
 use crate::passing::pass_over;
 use crate::settling::is_held;
 use crate::settling::is_settled;
@@ -131,6 +132,10 @@ pub fn advance(
     requires { ⌜ Ready (now file) rule (now book) reading top ⌝ ∗ ⌜ next < length (now events) ⌝ }
     ensures { λ r. ⌜ ((store : List Level) → Feeds (now (file .entry)) rule (now (book .entry)) reading store → topOf reading store ≡ top → length store ≡ room → Advances (now (file .entry)) rule (now (book .entry)) ceiling store reading (now (events .entry)) next r) ⌝ }
 {
+    let ahead = read_ahead(file, rule, book, room, ceiling, reading, top, events, next);
+    if next < ahead.going.next {
+        return ahead;
+    }
     let held = is_held(book, reading, top);
     let settled = is_settled(book, reading, held);
     if settled {

@@ -1,6 +1,7 @@
 // One event and one turn of feeding, by value: from the reading and the innermost level's record alone. The level store is not
 // seen here.
 pub mod advancing;
+pub mod ahead;
 pub mod passing;
 pub mod settling;
 pub mod turns;

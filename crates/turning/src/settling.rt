@@ -2,15 +2,16 @@
 use meaning::Level;
 use meaning::Reading;
 ghost use mathlib.Core.Path.{_≡_};
-ghost use Prim.Native.Nat.{_+_, _<_};
+ghost use Prim.Native.Nat.{ℕ, _+_, _<_};
 ghost use lib.ListN.{length};
-ghost use Rattle.meaning.specs.SkipBook.{bit};
+ghost use mathlib.Core.Bool.{_||_};
+ghost use Rattle.meaning.specs.SkipBook.{bit, inStill, inHold};
 ghost use Rattle.meaning.specs.Skipping as skipping;
 ghost use Rattle.meaning.specs.Skipping.{settled};
 ghost use Rattle.turning.specs.Turns.{BookServes};
 
 // Whether a state is in the set that a word stands for: its bit.
-fn in_set(word: u64, state: u8) -> bool
+pub fn in_set(word: u64, state: u8) -> bool
     requires { ⌜ state < 64 ⌝ }
     ensures { λ r. ⌜ r ≡ bit word state ⌝ }
 {
@@ -38,4 +39,13 @@ pub fn is_settled(book: &[u64], reading: Reading, held: bool) -> bool
         return true;
     }
     in_set(book[0], reading.state)
+}
+
+// The states that settle a level below a state, as a word: still and its hold, joined.
+pub fn settling_word(book: &[u64], above: u8) -> u64
+    requires { ⌜ 1 + above < length (now book) ⌝ }
+    ensures { λ r. ⌜ ((q : ℕ) → bit r q ≡ (inStill (now (book .entry)) q || inHold (now (book .entry)) above q)) ⌝ }
+{
+    let hold = 1 + above as usize;
+    book[0] | book[hold]
 }

@@ -89,7 +89,7 @@ fn look_up(ceiling: u32, reading: Reading, found: Move) -> LookedUp
 }
 
 // Only the mark is replaced by a letter.
-fn first_letter(first: u16, a: u16) -> u16
+pub fn first_letter(first: u16, a: u16) -> u16
     ensures { λ r. ⌜ r ≡ firstLetter first a ⌝ }
 {
     if first == NO_LETTER {
