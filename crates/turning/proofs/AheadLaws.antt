@@ -112,7 +112,6 @@ module _ {file : List ℕ} {rule : Rule} {book : List ℕ} {ceiling : ℕ} {even
     pub one-goes : (r′ : Reading) (store′ : List Level) → storeStep (ruleOf file) book ceiling (over r store) e ≡ given (over r′ store′)
         → r′ .skip ≡ 0 → r′ .looks ≤ r .looks + 1
         → GoesTo file rule book ceiling events stop s store (spotAt r′ store′ (s .next + 1)) store′
-    unfolding spotAt
     one-goes r′ store′ said z few =
         let more = step-taken (ruleOf file) book ceiling (over r store) (over r′ store′) e said in
         let there : s .next < length events = omega (arith, h .within) in
@@ -204,7 +203,6 @@ module _ {file : List ℕ} {rule : Rule} {book : List ℕ} {ceiling : ℕ} {even
     pub letters-pass : (count : ℕ) → s .next + count ≤ stop
         → ((i : ℕ) → s .next ≤ i → i < s .next + count → (2 ≤ getD events i 0) × (getD events i 0 < rule .letters + 2))
         → GoesTo file rule book ceiling events stop s store (spotAt (passedOn (s .reading) (s .reading .skip) count) store (s .next + count)) store
-    unfolding spotAt
     letters-pass zero limit letters =
         let n : s .next + 0 ≡ s .next = omega arith in
         rw (none-passed, n, h .topIs) (goes-none h)
@@ -407,7 +405,6 @@ module _ {file : List ℕ} {rule : Rule} {book : List ℕ} {ceiling : ℕ} {even
       → StandsOn file rule book ceiling events stop (spotAt r store i) store → r .state ≡ q → Named r (topOf r store)
       → SettlesBy book (r .depth) (topOf r store .above) word → i′ ≤ stop
       → GoesTo file rule book ceiling events stop (spotAt r store i) store (spotAt (readOn (r .first) r q′ (i′ - i)) store i′) store
-  unfolding spotAt
   reads-go {q} {i} readNone r store h e n w limit =
       let z : i - i ≡ 0 = omega arith in
       rw (none-read r q (i - i) e z) (goes-none h)
@@ -428,7 +425,6 @@ module _ {file : List ℕ} {rule : Rule} {book : List ℕ} {ceiling : ℕ} {even
       → SettlesBy book (r .depth) (topOf r store .above) word → i′ ≤ stop → (k : ℕ) → k ≤ 256 → rule .letters ≡ k
       → let a = getD events i 0 - 2 in let store′ = set store (r .depth - 1) (namedTop a r (topOf r store)) in
       GoesTo file rule book ceiling events stop (spotAt r store i) store (spotAt (readOn (namedFirst a r) r q′ (i′ - i)) store′ i′) store′
-  unfolding spotAt
   letters-go readNone less r store h e within w limit k small same = absurd (omega arith)
   letters-go {q} {i} {q′} {i′} (readOne {q₁ = q₁} t rest) less r store h e within w limit k small same =
       let a : ℕ = getD events i 0 - 2 in

@@ -119,7 +119,7 @@ pub record GoesTo (file : List ℕ) (rule : Rule) (book : List ℕ) (ceiling : �
       ≡ feedBy (storeStep (ruleOf file) book ceiling) (over (s .reading) store) (drop (s .next) events)
 
 -- a spot whose record is the store's
-unfoldable pub spotAt : Reading → List Level → ℕ → Spot
+abbrev pub spotAt : Reading → List Level → ℕ → Spot
 spotAt r store next = record { reading = r; top = topOf r store; next = next }
 
 -- on the same level or off it, with no record written
@@ -128,12 +128,12 @@ PassesTo file rule book events stop r top next p =
     (ceiling : ℕ) (store : List Level) → StandsOn file rule book ceiling events stop (record { reading = r; top = top; next = next }) store
     → GoesTo file rule book ceiling events stop (record { reading = r; top = top; next = next }) store (spotAt (p .reading) store (p .next)) store
 
--- a tree, with its record written at a place
+-- a tree on a level, with its record written at a place: the level's own record counts only below the top
 abbrev pub WritesTo : List ℕ → Rule → List ℕ → List ℕ → ℕ → Reading → Level → ℕ → ℕ → Tree → Type 0
 WritesTo file rule book events stop r top next place t =
-    (ceiling : ℕ) (store : List Level) → StandsOn file rule book ceiling events stop (record { reading = r; top = top; next = next }) store
-    → place < length store
-    → GoesTo file rule book ceiling events stop (record { reading = r; top = top; next = next }) store
+    (ceiling : ℕ) (store : List Level) → StandsOn file rule book ceiling events stop (spotAt r store next) store
+    → (0 < r .depth → topOf r store ≡ top) → place < length store
+    → GoesTo file rule book ceiling events stop (spotAt r store next) store
     (spotAt (t .reading) (set store place (t .level)) (t .next)) (set store place (t .level)) × (next < t .next)
 
 -- how far a stretch may go
@@ -158,8 +158,11 @@ pub record IsTree (rule : Rule) (book : List ℕ) (room : ℕ) (r : Reading) (to
 -- somewhere a tree can be read
 pub record TreeStands (file : List ℕ) (rule : Rule) (book events : List ℕ) (stop : ℕ) (r : Reading) (top : Level) (next : ℕ) : Type 0 where
   pub opens : Opens rule book r top events next stop
-  pub stood : Stood file rule book events stop (record { reading = r; top = top; next = next })
-  pub free : r .depth < length (stood .store)
+  pub ceiling : ℕ
+  pub store : List Level
+  pub stands : StandsOn file rule book ceiling events stop (spotAt r store next) store
+  pub below : 0 < r .depth → topOf r store ≡ top
+  pub free : r .depth < length store
 
 -- a stretch, and what is stored after it
 pub record ReadAhead (file : List ℕ) (rule : Rule) (book : List ℕ) (ceiling : ℕ) (store : List Level) (r : Reading) (events : List ℕ) (next : ℕ) (a : Advance)
