@@ -19,12 +19,14 @@ use Rattle.meaning.specs.declared.Reading.{Reading}
 use Rattle.meaning.proofs.laws.Truths.{by-cases}
 use Rattle.meaning.proofs.laws.Answered.{if-true, if-false}
 use Rattle.rule.specs.declared.Rule.{Rule}
-use Rattle.turning.specs.ReadingAhead.{SettlesBy, Reads, readNone, readOne, LettersRead, LettersOver, namedTop, namedFirst, readOn, lettersAfter, openedSpot, StandsOn, GoesTo, spotAt, Opens, WritesTo, TreeStands}
+use Rattle.turning.specs.ReadingAhead.{SettlesBy, Reads, readNone, readOne, LettersRead, LettersOver, namedTop, namedFirst, readOn, lettersAfter, openedSpot, StandsOn, GoesTo, spotAt, Farthest, Opens, WritesTo, TreeStands, ReadAhead}
 use Rattle.turning.specs.PassingOver.{passedOn}
 use Rattle.turning.specs.declared.ahead.Spot.{Spot}
 use Rattle.turning.specs.declared.ahead.Run.{Run}
 use Rattle.turning.specs.declared.ahead.Tree.{Tree}
-use Rattle.turning.specs.Turns.{BookServes}
+use Rattle.turning.specs.Advancing.{rest, restOf, Advances}
+use Rattle.turning.specs.declared.Advance.{Advance}
+use Rattle.turning.specs.Turns.{BookServes, Feeds}
 use Rattle.turning.proofs.Turned.{few-letters}
 use Rattle.turning.proofs.AheadLaws.{set-back, goes-none, goes-then, open-goes, held-goes, close-goes, letters-go, letters-pass, by-word, top-after}
 use Rattle.turning.proofs.AheadFacts.{word-deep, start-leads, stands-within, stands-serves}
@@ -77,6 +79,20 @@ module _ {file : List ℕ} {rule : Rule} {book : List ℕ} {ceiling : ℕ} {even
       → GoesTo file rule book ceiling events stop (record { reading = r; top = top; next = next }) store s′ store′
       → GoesTo file rule book ceiling events stop (spotAt r store next) store s′ store′
   goes-at r store next g = record { stands = g .stands; further = g .further; more = g .more; comes = g .comes }
+
+  -- where a stretch begins
+  pub stands-far : {r : Reading} {store : List Level} {next : ℕ} → Feeds file rule book r store → Farthest ceiling r next (length events) stop
+      → StandsOn file rule book ceiling events stop (spotAt r store next) store
+  stands-far h far =
+      record {
+        feeds = h;
+        topIs = refl;
+        unskipped = far .unskipped;
+        within = far .notPast;
+        before = far .notBefore;
+        fewEvents = far .fewEvents;
+        fewLooks = far .fewLooks;
+      }
 
   -- nothing is taken
   pub stays-put : {r : Reading} {top : Level} {next : ℕ} {store : List Level} → StandsOn file rule book ceiling events stop (record { reading = r; top = top; next = next }) store
@@ -227,6 +243,20 @@ module _ {file : List ℕ} {rule : Rule} {book : List ℕ} {events : List ℕ} {
       let store₁ : List Level = set store (r .depth) (t .level) in
       let own = own-kept r (t .reading) store (t .level) top same below in
       let after = more ceiling store₁ (first .0 .stands) own (omega (arith, same, free, length-set store (r .depth) (t .level))) in
-      let twice : set store₁ (t .reading .depth) (t′ .level) ≡ set store (r .depth) (t′ .level) = rw same (set-set store (r .depth) (t .level) (t′ .level)) in
-      (subst (λ (z : List Level). GoesTo file rule book ceiling events stop (spotAt r store next) store (spotAt (t′ .reading) z (t′ .next)) z) twice (goes-then (first .0) (after .0)),
-      omega (arith, first .1, after .1))
+      let twice : set store₁ (t .reading .depth) (t′ .level) ≡ set store (r .depth) (t′ .level) = rw same (set-set store (r .depth) (t .level) (t′ .level)) in (
+        subst (λ (z : List Level). GoesTo file rule book ceiling events stop (spotAt r store next) store (spotAt (t′ .reading) z (t′ .next)) z) twice (goes-then (first .0) (after .0)),
+        omega (arith, first .1, after .1),
+      )
+
+-- ---- a stretch is a turn
+
+pub ahead-advances : {file : List ℕ} {rule : Rule} {book : List ℕ} {ceiling : ℕ} {store : List Level} {r : Reading} {events : List ℕ} {next : ℕ} {a : Advance}
+    → ReadAhead file rule book ceiling store r events next a → next < a .going .next → Advances file rule book ceiling store r events next a
+unfolding rest restOf
+ahead-advances h further =
+    record {
+      further = further;
+      more = h .goes .more;
+      goes = record { within = omega (arith, h .goes .stands .before, h .goes .stands .within); taken = λ _. h .taken; feeds = λ _. h .goes .stands .feeds };
+      comes = rw (h .taken) (h .goes .comes);
+    }

@@ -167,6 +167,7 @@ pub record TreeStands (file : List ℕ) (rule : Rule) (book events : List ℕ) (
 -- a stretch, and what is stored after it
 pub record ReadAhead (file : List ℕ) (rule : Rule) (book : List ℕ) (ceiling : ℕ) (store : List Level) (r : Reading) (events : List ℕ) (next : ℕ) (a : Advance)
     : Type 0 where
-  pub goes : (stop : ℕ) × GoesTo file rule book ceiling events stop (spotAt r store next) store
+  pub stop : ℕ
+  pub goes : GoesTo file rule book ceiling events stop (spotAt r store next) store
       (spotAt (a .going .reading) (set store (a .place) (a .level)) (a .going .next)) (set store (a .place) (a .level))
   pub taken : a .going .ended ≡ feeding.AllTaken

@@ -33,19 +33,27 @@ letters-on-requires : tie.Need-letters-on-requires
 letters-on-requires c κs =
     let t = c .before .before .before .before .before .pre in
     let ruled = t .stands .feeds .ruled in
-    let opened = opened-at (c .before .before .before .before .before .args .rule) (c .before .open-tree .ensures) in
-    (ruled, (omega (arith, states-are ruled, start-below (accepted-is-rule _ (ruled .accepted)) (start-leads ruled (t .opens .starts))),
-    (omega (arith, opened .nextIs, t .opens .inside), t .stands .within)))
+    let opened = opened-at (c .before .before .before .before .before .args .rule) (c .before .open-tree .ensures) in (
+      ruled,
+      (
+        omega (arith, states-are ruled, start-below (accepted-is-rule _ (ruled .accepted)) (start-leads ruled (t .opens .starts))),
+        (omega (arith, opened .nextIs, t .opens .inside), t .stands .within),
+      ),
+    )
 
 after-letters-requires : tie.Need-after-letters-requires
 after-letters-requires c κs =
     let t = c .before .before .before .before .before .before .pre in
     let opened = opened-at (c .before .before .before .before .before .before .args .rule) (c .before .before .open-tree .ensures) in
     let read = c .letters-on .ensures in
-    let counted = stands-ready (t .stands) .counted in
-    (omega (arith, opened .looksIs, opened .takenIs, counted .looksTaken),
-    λ less. (reads-first (read .reads) less, omega (arith, read .within, t .stands .within),
-    omega (arith, opened .takenIs, opened .nextIs, read .within, t .stands .fewEvents, t .opens .inside)))
+    let counted = stands-ready (t .stands) .counted in (
+      omega (arith, opened .looksIs, opened .takenIs, counted .looksTaken),
+      λ less. (
+        reads-first (read .reads) less,
+        omega (arith, read .within, t .stands .within),
+        omega (arith, opened .takenIs, opened .nextIs, read .within, t .stands .fewEvents, t .opens .inside),
+      ),
+    )
 
 -- the tree up to the last of its letters that is looked up, over any store
 read : (c : tie.After-after-letters) → let a = c .before .before .before .before .before .before .before .args in let o = c .before .before .before .before .before .before .before .pre .opens in
