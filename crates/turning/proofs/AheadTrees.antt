@@ -223,29 +223,67 @@ module _ {file : List ℕ} {rule : Rule} {book : List ℕ} {events : List ℕ} {
         holdWord = λ deep. rw (own deep) at (serves .holdWord deep);
       }
 
-  pub trees-stand : TreeStands file rule book events stop r top next → WritesTo file rule book events stop r top next (r .depth) t → t .reading .depth ≡ r .depth
-      → Opens rule book (t .reading) top events (t .next) stop → TreeStands file rule book events stop (t .reading) top (t .next)
-  trees-stand s inv same o =
-      let g = inv (s .ceiling) (s .store) (s .stands) (s .below) (s .free) .0 in
+-- where the next tree is read: before the first, or after one, whose record the next one's replaces
+pub record NextTree (file : List ℕ) (rule : Rule) (book : List ℕ) (ceiling : ℕ) (events : List ℕ) (stop : ℕ) (r : Reading) (top : Level) (next : ℕ) (store : List Level)
+    (t : Tree) : Type 0 where
+  pub store′ : List Level
+  pub goes : GoesTo file rule book ceiling events stop (spotAt r store next) store (spotAt (t .reading) store′ (t .next)) store′
+  pub replaced : (l : Level) → set store′ (r .depth) l ≡ set store (r .depth) l
+  pub below : 0 < t .reading .depth → topOf (t .reading) store′ ≡ top
+  pub free : r .depth < length store′
+
+pub record MoreTrees (file : List ℕ) (rule : Rule) (book : List ℕ) (events : List ℕ) (stop : ℕ) (r : Reading) (top : Level) (next : ℕ) (t : Tree) : Type 0 where
+  pub opens : Opens rule book (t .reading) top events (t .next) stop
+  pub same : t .reading .depth ≡ r .depth
+  pub goes : (ceiling : ℕ) (store : List Level) → StandsOn file rule book ceiling events stop (spotAt r store next) store → (0 < r .depth → topOf r store ≡ top)
+      → r .depth < length store → NextTree file rule book ceiling events stop r top next store t
+
+module _ {file : List ℕ} {rule : Rule} {book : List ℕ} {events : List ℕ} {stop : ℕ} {r : Reading} {top : Level} {next : ℕ} where
+  pub trees-start : Opens rule book r top events next stop → MoreTrees file rule book events stop r top next (record { reading = r; next = next; level = top })
+  trees-start o =
       record {
         opens = o;
-        ceiling = s .ceiling;
-        store = set (s .store) (r .depth) (t .level);
-        stands = g .stands;
-        below = own-kept r (t .reading) (s .store) (t .level) top same (s .below);
-        free = omega (arith, same, s .free, length-set (s .store) (r .depth) (t .level));
+        same = refl;
+        goes = λ ceiling store h below free. record { store′ = store; goes = goes-none h; replaced = λ l. refl; below = below; free = free };
       }
 
-  pub trees-more : WritesTo file rule book events stop r top next (r .depth) t → t .reading .depth ≡ r .depth → {t′ : Tree}
-      → WritesTo file rule book events stop (t .reading) top (t .next) (t .reading .depth) t′ → WritesTo file rule book events stop r top next (r .depth) t′
-  trees-more inv same {t′} more ceiling store h below free =
-      let first = inv ceiling store h below free in
-      let store₁ : List Level = set store (r .depth) (t .level) in
-      let own = own-kept r (t .reading) store (t .level) top same below in
-      let after = more ceiling store₁ (first .0 .stands) own (omega (arith, same, free, length-set store (r .depth) (t .level))) in
-      let twice : set store₁ (t .reading .depth) (t′ .level) ≡ set store (r .depth) (t′ .level) = rw same (set-set store (r .depth) (t .level) (t′ .level)) in (
-        subst (λ (z : List Level). GoesTo file rule book ceiling events stop (spotAt r store next) store (spotAt (t′ .reading) z (t′ .next)) z) twice (goes-then (first .0) (after .0)),
-        omega (arith, first .1, after .1),
+  pub trees-on : {t : Tree} → WritesTo file rule book events stop r top next (r .depth) t → t .reading .depth ≡ r .depth
+      → Opens rule book (t .reading) top events (t .next) stop → MoreTrees file rule book events stop r top next t
+  trees-on {t} inv same o =
+      record {
+        opens = o;
+        same = same;
+        goes = λ ceiling store h below free.
+            record {
+              store′ = set store (r .depth) (t .level);
+              goes = inv ceiling store h below free .0;
+              replaced = λ l. set-set store (r .depth) (t .level) l;
+              below = own-kept r (t .reading) store (t .level) top same below;
+              free = omega (arith, free, length-set store (r .depth) (t .level));
+            };
+      }
+
+  pub trees-stand : {t : Tree} → TreeStands file rule book events stop r top next → MoreTrees file rule book events stop r top next t
+      → TreeStands file rule book events stop (t .reading) top (t .next)
+  trees-stand s m =
+      let n = m .goes (s .ceiling) (s .store) (s .stands) (s .below) (s .free) in
+      record {
+        opens = m .opens;
+        ceiling = s .ceiling;
+        store = n .store′;
+        stands = n .goes .stands;
+        below = n .below;
+        free = omega (arith, m .same, n .free);
+      }
+
+  pub trees-more : {t t′ : Tree} → MoreTrees file rule book events stop r top next t → WritesTo file rule book events stop (t .reading) top (t .next) (t .reading .depth) t′
+      → WritesTo file rule book events stop r top next (r .depth) t′
+  trees-more {t} {t′} m more ceiling store h below free =
+      let n = m .goes ceiling store h below free in
+      let after = more ceiling (n .store′) (n .goes .stands) (n .below) (omega (arith, m .same, n .free)) in
+      let twice : set (n .store′) (t .reading .depth) (t′ .level) ≡ set store (r .depth) (t′ .level) = rw (m .same) (n .replaced (t′ .level)) in (
+        subst (λ (z : List Level). GoesTo file rule book ceiling events stop (spotAt r store next) store (spotAt (t′ .reading) z (t′ .next)) z) twice (goes-then (n .goes) (after .0)),
+        omega (arith, n .goes .further, after .1),
       )
 
 -- ---- a stretch is a turn

@@ -417,10 +417,16 @@ fn read_trees(
     requires { ⌜ TreeStands (now file) rule (now book) (now events) stop reading top next ⌝ }
     ensures { λ r. ⌜ WritesTo (now (file .entry)) rule (now (book .entry)) (now (events .entry)) stop reading top next (reading .depth) r ⌝ }
 {
-    let mut at = read_tree(file, rule, book, reading, top, events, next, stop);
-    while tree_follows(rule, book, room, reading.depth, at, top, events, stop) {
+    let mut at = Tree {
+        reading,
+        next,
+        level: top,
+    };
+    let mut more = true;
+    while more {
         let left = at.reading;
         at = read_tree(file, rule, book, left, top, events, at.next, stop);
+        more = tree_follows(rule, book, room, reading.depth, at, top, events, stop);
     }
     at
 }
