@@ -32,8 +32,8 @@ fn feeding(rng: &mut Prng) {
     if let Ok(opening) = reader::open(file, &mut zeros.clone()) {
         let (mut expected, mut found) = (call.store.clone(), call.store);
         assert_eq!(
-            reader::feed(file, &zeros, opening.reading, &mut expected, events, u32::MAX),
-            plain::read_in_full(file, &mut found, events)
+            reader::feed(file, &zeros, opening.reading, &mut expected, events, call.ceiling),
+            plain::read_in_full(file, &mut found, events, call.ceiling)
         );
         assert_eq!(expected, found);
     }

@@ -125,3 +125,68 @@ pub fn bushy(k: usize, count: usize) -> Vec<u16> {
 pub fn settled(part: Vec<u16>) -> Vec<u16> {
     [vec![2], part].concat()
 }
+
+/// The rule of the story in `examples/README.md`: symbol columns stay text.
+pub fn stay_text() -> Rule {
+    const OFF: usize = 9;
+    let (n, k) = (10, 5);
+    let mut letter_moves = vec![vec![Some(OFF); k]; n];
+    letter_moves[0] = [4, 5, 1, 2, 3].map(Some).to_vec();
+    let mut tree_moves = vec![vec![Some(OFF); n]; n];
+    for (upper, lower, to) in [
+        (0, 4, 6),
+        (0, 5, 6),
+        (6, 4, 6),
+        (6, 5, 6),
+        (0, 6, 7),
+        (7, 6, 7),
+        (4, 1, 4),
+        (4, 2, 8),
+        (0, 8, 8),
+        (6, 8, 8),
+        (7, 8, 8),
+    ] {
+        tree_moves[upper][lower] = Some(to);
+    }
+    tree_moves[5] = vec![Some(5); n];
+    for end in [8, OFF] {
+        letter_moves[end] = vec![Some(end); k];
+        tree_moves[end] = vec![Some(end); n];
+    }
+    let mut classes = vec![Class::OffSchema; n];
+    classes[7] = Class::Accept;
+    classes[8] = Class::Reject;
+    Rule { n, k, initial: 0, tree_start: Some(0), letter_moves, tree_moves, classes }
+}
+
+/// Tables of that story: a symbol column and so many others, ten cells in a
+/// column and one letter in a cell. The rest is letters on the top level.
+fn story(others: usize, count: usize) -> Vec<u16> {
+    let mut rng = rng();
+    let columns = others + 1;
+    let mut events = Vec::with_capacity(count);
+    while events.len() + 2 + columns * 33 <= count {
+        events.push(0);
+        for column in 0..columns {
+            events.extend([0, if column == 0 { 2 } else { 3 }]);
+            for _ in 0..10 {
+                let cell = if column == 0 { 4 } else { 4 + rng.below(3) as u16 };
+                events.extend([0, cell, 1]);
+            }
+            events.push(1);
+        }
+        events.push(1);
+    }
+    events.resize(count, 2);
+    events
+}
+
+/// A symbol column and three others.
+pub fn story_of_3(_: usize, count: usize) -> Vec<u16> {
+    story(3, count)
+}
+
+/// A symbol column and ten others.
+pub fn story_of_10(_: usize, count: usize) -> Vec<u16> {
+    story(10, count)
+}

@@ -1,11 +1,12 @@
 //! `bench [FILE]`: the proved calls against plain safe Rust of the same answers and
 //! against a plain sum over what is read, side by side in one run. The tables are
 //! printed, or written into FILE, between its lines `<!-- measured -->` and
-//! `<!-- end -->`.
+//! `<!-- end -->`. `bench count ..` is what `count.rs` runs.
 
 #![forbid(unsafe_code)]
 
 mod agrees;
+mod count;
 mod inputs;
 mod plain;
 mod report;
@@ -13,7 +14,7 @@ mod timing;
 
 use host::{Store, ANSWER};
 use reader::{stream, Fed, Level, Outcome, Reading, Rule, NO_LETTER};
-use report::{Call, Full, Passing, Report};
+use report::{Call, Full, Passing, Report, Short};
 use std::process::ExitCode;
 use timing::least;
 
@@ -27,12 +28,19 @@ const LARGEST: u32 = u32::MAX;
 
 fn main() -> ExitCode {
     let arguments: Vec<String> = std::env::args().skip(1).collect();
+    if arguments.first().is_some_and(|word| word == "count") {
+        return match count::run(&arguments[1..]) {
+            Some(()) => ExitCode::SUCCESS,
+            None => ExitCode::from(2),
+        };
+    }
     if arguments.len() > 1 {
         eprintln!("usage: bench [FILE]");
         return ExitCode::from(2);
     }
     agrees::ask();
-    let report = (1..PASSES).fold(measured(), |report, _| report.least(measured()));
+    let mut report = (1..PASSES).fold(measured(), |report, _| report.least(measured()));
+    report.counts = count::counts();
     let Some(path) = arguments.first() else {
         print!("{}", report.markdown());
         return ExitCode::SUCCESS;
@@ -50,8 +58,10 @@ fn measured() -> Report {
     Report {
         repetitions: REPETITIONS,
         full: full_reading(),
+        short: short_cells(),
         passing: passing_over(),
         calls: single_calls(),
+        counts: Vec::new(),
     }
 }
 
@@ -88,8 +98,11 @@ fn full_reading() -> Vec<Full> {
     let small = inputs::mixing(16, 16);
     let largest = inputs::mixing(64, 256);
     type Events = fn(usize, usize) -> Vec<u16>;
-    let cases: [(&'static str, &Rule, Events); 3] = [
+    let story = inputs::stay_text();
+    let cases: [(&'static str, &Rule, Events); 5] = [
         ("rows of a table, n 16, k 16", &small, inputs::rows),
+        ("the story's table, 3 other columns", &story, inputs::story_of_3),
+        ("the story's table, 10 other columns", &story, inputs::story_of_10),
         ("nested to 60, n 16, k 16", &small, inputs::mixed),
         ("nested to 60, n 64, k 256", &largest, inputs::mixed),
     ];
@@ -109,7 +122,7 @@ fn full_reading() -> Vec<Full> {
             assert_eq!(feed_linked(&file, &zeros, first, &mut linked, &events), expected);
             let fed = plain::feed(&file, &zeros, first, &mut plainly, &events, LARGEST);
             assert_eq!(fed, expected);
-            assert_eq!(plain::read_in_full(&file, &mut alone, &events), expected);
+            assert_eq!(plain::read_in_full(&file, &mut alone, &events, LARGEST), expected);
 
             let [proved, safe, alone, sum] = least(
                 REPETITIONS,
@@ -123,12 +136,59 @@ fn full_reading() -> Vec<Full> {
                         let fed = plain::feed(&file, &zeros, first, store, &events, LARGEST);
                         fed.reading.looks as u64
                     },
-                    &mut || plain::read_in_full(&file, &mut alone, &events).reading.looks as u64,
+                    &mut || {
+                        plain::read_in_full(&file, &mut alone, &events, LARGEST).reading.looks as u64
+                    },
                     &mut || plain::sum(&events),
                 ],
             )
             .map(|time| time / size as f64);
             rows.push(Full { name, size, proved, safe, alone, sum });
+        }
+    }
+    rows
+}
+
+/// Short settled parts: cells of one letter, with the book that opening fills and in
+/// full.
+fn short_cells() -> Vec<Short> {
+    let mut rows = Vec::new();
+    let rule = inputs::stay_text();
+    let file = rule.to_file();
+    let zeros = vec![0; rule.n + 1];
+    let mut book = zeros.clone();
+    let first = reader::open(&file, &mut book).expect("a good rule").reading;
+    type Events = fn(usize, usize) -> Vec<u16>;
+    let cases: [(&'static str, Events); 2] = [
+        ("the story's table, 3 other columns", inputs::story_of_3),
+        ("the story's table, 10 other columns", inputs::story_of_10),
+    ];
+    for (name, generate) in cases {
+        for size in SIZES {
+            let events = generate(rule.k, size);
+            let levels = vec![Level::default(); 64];
+            let (mut linked, mut linked_full) = (Store::new(&levels), Store::new(&levels));
+            let mut plainly = levels;
+            let expected = stream::feed(&file, &book, first, &mut plainly, &events, LARGEST);
+            assert_eq!(expected.outcome, Outcome::AllTaken);
+            assert_eq!(feed_linked(&file, &book, first, &mut linked, &events), expected);
+            let looks = expected.reading.looks as f64 / size as f64;
+
+            let [skipping, full] = least(
+                REPETITIONS,
+                calls_for(size),
+                [
+                    &mut || {
+                        feed_linked(&file, &book, first, &mut linked, &events).reading.taken as u64
+                    },
+                    &mut || {
+                        let store = &mut linked_full;
+                        feed_linked(&file, &zeros, first, store, &events).reading.taken as u64
+                    },
+                ],
+            )
+            .map(|time| time / size as f64);
+            rows.push(Short { name, size, looks, skipping, full });
         }
     }
     rows

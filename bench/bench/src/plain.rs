@@ -3,9 +3,9 @@
 //! without a proof in mind, and checked against the second reading before anything
 //! is measured.
 //!
-//! [`feed`] takes what the proved call takes and answers what it answers: the goal
-//! for full reading is measured against it. [`read_in_full`] has less to do and is
-//! there for information.
+//! [`feed`] takes what the proved call takes and answers what it answers.
+//! [`read_in_full`] never skips, so it has no book to ask: it is the yardstick, and
+//! the goals for full reading are measured against it.
 
 use reader::{Fed, Level, Opening, Outcome, Reading, Refusal, NO_LETTER};
 
@@ -223,8 +223,8 @@ fn is_reading(table: &Table, book: &[u64], reading: &Reading, store: &[Level]) -
 }
 
 /// Full reading alone, from the first event and with no book in sight: what one
-/// would write who never skips.
-pub fn read_in_full(file: &[u8], store: &mut [Level], events: &[u16]) -> Fed {
+/// would write who never skips. It refuses what the proved call refuses.
+pub fn read_in_full(file: &[u8], store: &mut [Level], events: &[u16], ceiling: u32) -> Fed {
     let fed = |took, state, depth, first, outcome| {
         let (taken, looks) = (took as u32, took as u32);
         Fed { took, reading: Reading { state, depth, skip: 0, taken, looks, first }, outcome }
@@ -241,13 +241,22 @@ pub fn read_in_full(file: &[u8], store: &mut [Level], events: &[u16]) -> Fed {
             let refusal = Refusal::new(number, took as u64);
             fed(took, state, depth as u32, first, Outcome::Refused(refusal))
         };
+        if took == u32::MAX as usize {
+            return refused(16);
+        }
         if event as usize >= table.k + 2 {
             return refused(10);
         }
-        let to = match event {
+        match event {
             OPEN if depth >= store.len() => return refused(8),
-            OPEN => table.tree_start,
             CLOSE if depth == 0 => return refused(7),
+            _ => {}
+        }
+        if took >= ceiling as usize {
+            return refused(9);
+        }
+        let to = match event {
+            OPEN => table.tree_start,
             CLOSE => table.tree_move(store[depth - 1].state, state),
             _ => table.letter_move(state, event as usize - 2),
         };

@@ -1,5 +1,6 @@
 //! The tables, in Markdown, and how far the goals are met.
 
+use crate::count::Counts;
 use std::fmt::Write;
 
 /// Full reading, nanoseconds for an event.
@@ -7,10 +8,21 @@ pub struct Full {
     pub name: &'static str,
     pub size: usize,
     pub proved: f64,
+    /// Safe Rust that is handed a book and asks it.
     pub safe: f64,
-    /// Safe Rust that never skips.
+    /// The yardstick: safe Rust that never skips.
     pub alone: f64,
     pub sum: f64,
+}
+
+/// Cells of one letter, nanoseconds for an event.
+pub struct Short {
+    pub name: &'static str,
+    pub size: usize,
+    /// How many of the events are looks where it skips.
+    pub looks: f64,
+    pub skipping: f64,
+    pub full: f64,
 }
 
 /// Passing over, nanoseconds for an event.
@@ -50,8 +62,11 @@ pub struct Report {
     /// How many repetitions each figure is the least of.
     pub repetitions: usize,
     pub full: Vec<Full>,
+    pub short: Vec<Short>,
     pub passing: Vec<Passing>,
     pub calls: Vec<Call>,
+    /// Nothing where there is no valgrind to count with.
+    pub counts: Vec<Counts>,
 }
 
 const BEGIN: &str = "<!-- measured -->\n";
@@ -65,12 +80,16 @@ impl Report {
             full: least_of(self.full, other.full, |row| {
                 vec![&mut row.proved, &mut row.safe, &mut row.alone, &mut row.sum]
             }),
+            short: least_of(self.short, other.short, |row| {
+                vec![&mut row.skipping, &mut row.full]
+            }),
             passing: least_of(self.passing, other.passing, |row| {
                 vec![&mut row.proved, &mut row.full, &mut row.safe, &mut row.sum]
             }),
             calls: least_of(self.calls, other.calls, |row| {
                 vec![&mut row.proved, &mut row.plain, &mut row.sum]
             }),
+            counts: self.counts,
         }
     }
 
@@ -99,7 +118,7 @@ impl Report {
         )?;
 
         writeln!(text, "### Full reading, nanoseconds for an event\n")?;
-        writeln!(text, "| input | events | proved | safe Rust | its time / proved | plain sum | proved / sum | for information: safe Rust that never skips | its time / proved |")?;
+        writeln!(text, "| input | events | proved | safe Rust that never skips | its time / proved | plain sum | proved / sum | for information: safe Rust with a book | its time / proved |")?;
         writeln!(text, "|---|---:|---:|---:|---:|---:|---:|---:|---:|")?;
         for row in &self.full {
             writeln!(
@@ -108,13 +127,46 @@ impl Report {
                 row.name,
                 counted(row.size),
                 row.proved,
-                row.safe,
-                row.safe / row.proved,
+                row.alone,
+                row.alone / row.proved,
                 row.sum,
                 row.proved / row.sum,
-                row.alone,
-                row.alone / row.proved
+                row.safe,
+                row.safe / row.proved
             )?;
+        }
+
+        writeln!(text, "\n### Cells of one letter, nanoseconds for an event\n")?;
+        writeln!(text, "| input | events | looks of all events | with skipping | in full | full / skipping |")?;
+        writeln!(text, "|---|---:|---:|---:|---:|---:|")?;
+        for row in &self.short {
+            writeln!(
+                text,
+                "| {} | {} | {:.2} | {:.2} | {:.2} | {:.2} |",
+                row.name,
+                counted(row.size),
+                row.looks,
+                row.skipping,
+                row.full,
+                row.full / row.skipping
+            )?;
+        }
+
+        if !self.counts.is_empty() {
+            writeln!(text, "\n### Instructions for an event\n")?;
+            writeln!(text, "| input | proved, in full | proved, with skipping | safe Rust that never skips | in full / never skips |")?;
+            writeln!(text, "|---|---:|---:|---:|---:|")?;
+            for row in &self.counts {
+                writeln!(
+                    text,
+                    "| {} | {:.1} | {:.1} | {:.1} | {:.2} |",
+                    row.name,
+                    row.full,
+                    row.skipping,
+                    row.yardstick,
+                    row.full / row.yardstick
+                )?;
+            }
         }
 
         writeln!(text, "\n### Passing over, nanoseconds for an event\n")?;
@@ -155,15 +207,23 @@ impl Report {
         writeln!(text, "\n### Goals\n")?;
         writeln!(text, "| goal | measured, the worst of the rows | met |")?;
         writeln!(text, "|---|---|---|")?;
-        for (goal, measured, met) in self.goals() {
-            writeln!(text, "| {goal} | {measured} | {} |", if met { "yes" } else { "no" })?;
+        let goals = self.goals();
+        for (goal, measured, met) in &goals {
+            writeln!(text, "| {goal} | {measured} | {} |", if *met { "yes" } else { "no" })?;
         }
-        Ok(())
+        let missed = goals.iter().filter(|(_, _, met)| !met).count();
+        match missed {
+            0 => writeln!(text, "\nAll {} goals are met.", goals.len()),
+            _ => writeln!(text, "\nOf {} goals {missed} are not met.", goals.len()),
+        }
     }
 
     fn goals(&self) -> Vec<(&'static str, String, bool)> {
         let least = |ratios: Vec<f64>| ratios.into_iter().fold(f64::INFINITY, f64::min);
-        let safe = least(self.full.iter().map(|row| row.safe / row.proved).collect());
+        let alone = least(self.full.iter().map(|row| row.alone / row.proved).collect());
+        let short = self.short.iter().map(|row| row.full / row.skipping);
+        let long = self.passing.iter().map(|row| row.full / row.proved);
+        let skipping = least(short.chain(long).collect());
         let deep: Vec<&Passing> =
             self.passing.iter().filter(|row| row.name == "a deep part").collect();
         let times_sum =
@@ -171,11 +231,18 @@ impl Report {
         let times_full = least(deep.iter().map(|row| row.full / row.proved).collect());
         let openings = self.calls.iter().filter(|row| row.name.starts_with("opening"));
         let opening = openings.map(|row| row.proved).fold(0.0, f64::max) / 1_000_000.0;
-        vec![
+        let checks = self.calls.iter().filter(|row| row.name.starts_with("the rule check"));
+        let check = checks.map(|row| row.proved / row.sum).fold(0.0, f64::max);
+        let mut goals = vec![
             (
-                "full reading at least as fast as the safe Rust",
-                format!("safe Rust takes {safe:.2} times as long"),
-                safe >= 1.0,
+                "full reading at least 0.9 times as fast as safe Rust that never skips",
+                format!("{alone:.2} times as fast"),
+                alone >= 0.9,
+            ),
+            (
+                "skipping never slower than full reading",
+                format!("{skipping:.2} times as fast"),
+                skipping >= 1.0,
             ),
             (
                 "passing over a deep part within twice the memory limit",
@@ -188,7 +255,21 @@ impl Report {
                 times_full >= 20.0,
             ),
             ("opening under 1 ms at n 64 and k 256", format!("{opening:.3} ms"), opening < 1.0),
-        ]
+            (
+                "the rule check within twice a plain sum of the file's bytes",
+                format!("{check:.2} times the plain sum"),
+                check <= 2.0,
+            ),
+        ];
+        if let Some(rows) = self.counts.first() {
+            let times = rows.full / rows.yardstick;
+            goals.push((
+                "rows of a table in at most 1.5 times the instructions of safe Rust that never skips",
+                format!("{times:.2} times"),
+                times <= 1.5,
+            ));
+        }
+        goals
     }
 }
 
