@@ -3,7 +3,9 @@
 use mathlib.Core.Path.{_≡_, ap, _∙_}
 use mathlib.Core.Bool.{Bool, true, false, not}
 use mathlib.Core.List.{List}
-use Prim.Native.Nat.{ℕ, suc, _+_, _≤_, _<_}
+use Prim.Native.Nat.{ℕ, zero, suc, _+_, _≤_, _<_}
+use native.Mathlib.Numerals.{add-one}
+use native.Mathlib.Omega.{arith}
 use lib.ListN.{length, getD, drop}
 use lib.Seq.{drop-cons, drop-length}
 use borrow.Author.Tests.{lt-ltb, le-ltb, eq-eqb, ne-eqb}
@@ -56,3 +58,13 @@ module _ (good : ℕ → Bool) (place : ℕ) (xs : List ℕ) (i : ℕ) (inside :
 pub table-end : (good : ℕ → Bool) (place : ℕ) (xs : List ℕ) → tableCheck good place (drop (length xs) xs) ≡ given tt
 unfolding tableCheck
 table-end good place xs = rw drop-length
+
+-- a run of numbers that pass
+pub table-run : (good : ℕ → Bool) (place : ℕ) (xs : List ℕ) (n i : ℕ) → i + n ≤ length xs → ((j : ℕ) → i ≤ j → j < i + n → good (getD xs j 0) ≡ true)
+    → tableCheck good (place + i) (drop i xs) ≡ tableCheck good (place + (i + n)) (drop (i + n) xs)
+table-run good place xs zero i within all = let same : i + 0 ≡ i = omega arith in rw same
+table-run good place xs (suc n) i within all =
+    let here : place + (i + 1) ≡ suc (place + i) = omega arith in
+    let there : i + 1 + n ≡ i + suc n = omega arith in
+    table-on good (place + i) xs i (omega arith) (all i (omega arith) (omega arith))
+    ∙ rw (← here, ← add-one i, ← there) (table-run good place xs n (i + 1) (omega arith) (λ j low high. all j (omega arith) (omega arith)))

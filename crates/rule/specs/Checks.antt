@@ -1,9 +1,10 @@
 -- What the single checks of a rule answer: the listing of their outcome, one test for every number that stands in a table,
 -- and the rule of the writer's arguments.
-use Prim.Native.Nat.{ℕ, _+_, _*_}
+use Prim.Native.Nat.{ℕ, _+_, _*_, _<_}
 use mathlib.Core.Bool.{Bool, true, false, not}
+use mathlib.Core.Path.{_≡_}
 use mathlib.Core.List.{List, []}
-use lib.ListN.{length}
+use lib.ListN.{length, getD}
 use Rattle.meaning.specs.Answers.{refuse_at_when_otherwise_, Answer, given, _andThen_, _<?_, _=?_}
 use Rattle.meaning.specs.RuleFile as format
 use Rattle.meaning.specs.RuleFile.{isState, isMove, numbersCheck, recordCheck, tableCheck, part, headerLength, letterRecord, treeRecord, classRecord, fileLength, classCount}
@@ -21,6 +22,10 @@ outcomeSays (outcome.Refused r) = refusalSays r
 unfoldable pub inRange : ℕ → Bool → ℕ → Bool
 inRange below true x = isMove below x
 inRange below false x = isState below x
+
+-- every number of a run passes a test
+abbrev pub AllIn : (ℕ → Bool) → List ℕ → Type 0
+AllIn good xs = (i : ℕ) → i < length xs → good (getD xs i 0) ≡ true
 
 -- the rule with these numbers and tables
 unfoldable pub ruleFrom : ℕ → ℕ → ℕ → ℕ → List ℕ → List ℕ → List ℕ → format.Rule

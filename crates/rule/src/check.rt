@@ -5,13 +5,13 @@ use crate::layout::Layout;
 use crate::tables::HEADER;
 use meaning::Refusal;
 ghost use mathlib.Core.Path.{_≡_};
-ghost use mathlib.Core.Bool.{_&&_};
+ghost use mathlib.Core.Bool.{true, _&&_};
 ghost use mathlib.Core.List.{[]};
-ghost use Prim.Native.Nat.{_+_, _<_, _^_};
+ghost use Prim.Native.Nat.{_+_, _≤_, _<_, _^_};
 ghost use lib.ListN.{length};
 ghost use Rattle.meaning.specs.Answers.{refused, _≤?_};
 ghost use Rattle.meaning.specs.RuleFile.{number2, number4, numbersCheck, recordCheck, tableCheck};
-ghost use Rattle.rule.specs.Checks.{outcomeSays, inRange, ruleFrom, bodyCheck, tablesCheck};
+ghost use Rattle.rule.specs.Checks.{outcomeSays, inRange, AllIn, ruleFrom, bodyCheck, tablesCheck};
 
 // What one check answers: it passes, or a refusal.
 pub enum Outcome {
@@ -98,9 +98,9 @@ pub fn record_check(file: &[u8], place: usize, kind: u16, size: usize) -> Outcom
     Outcome::Passes
 }
 
-// The numbers of a table that stands at a place, the first bad one first.
-pub fn table_check(body: &[u8], place: usize, below: u8, none: bool) -> Outcome
-    requires { ⌜ place < 2 ^ 60 ⌝ }
+// The numbers of a run that stands at a place one by one, the first bad one first.
+fn run_check(body: &[u8], place: usize, below: u8, none: bool) -> Outcome
+    requires { ⌜ place + length (now body) < 2 ^ 64 ⌝ }
     ensures { λ r. ⌜ outcomeSays r ≡ tableCheck (inRange below none) place (now (body .entry)) ⌝ }
 {
     let mut i = 0;
@@ -109,6 +109,59 @@ pub fn table_check(body: &[u8], place: usize, below: u8, none: bool) -> Outcome
             return refuse(4, place + i);
         }
         i += 1;
+    }
+    Outcome::Passes
+}
+
+// How many numbers are looked at together.
+const BLOCK: usize = 128;
+
+// One for a number that is out of range.
+fn out_of_range(below: u8, none: bool, x: u8) -> u8
+    ensures { λ r. ⌜ (r ≤ 1) × (r ≡ 0 → inRange below none x ≡ true) ⌝ }
+{
+    if in_range(below, none, x) { 0 } else { 1 }
+}
+
+// How many numbers of a block are out of range. Counting has no branch on a number, so that it is done for many at a time.
+fn bad_numbers(block: &[u8], below: u8, none: bool) -> u8
+    requires { ⌜ length (now block) ≤ 128 ⌝ }
+    ensures { λ r. ⌜ (r ≡ 0 → AllIn (inRange below none) (now (block .entry))) ⌝ }
+{
+    let mut bad: u8 = 0;
+    let mut i = 0;
+    while i < block.len() {
+        bad += out_of_range(below, none, block[i]);
+        i += 1;
+    }
+    bad
+}
+
+// Where a block ends that begins at a number: so many further, or where the numbers end.
+fn block_end(from: usize, end: usize) -> usize
+    requires { ⌜ from < end ⌝ }
+    ensures { λ r. ⌜ (from < r) × (r ≤ end) × (r ≤ from + 128) ⌝ }
+{
+    if end - from <= BLOCK {
+        return end;
+    }
+    from + BLOCK
+}
+
+// The numbers of a table that stands at a place, the first bad one first. A block in range is told at once, and any other one by
+// one.
+pub fn table_check(body: &[u8], place: usize, below: u8, none: bool) -> Outcome
+    requires { ⌜ place < 2 ^ 60 ⌝ }
+    ensures { λ r. ⌜ outcomeSays r ≡ tableCheck (inRange below none) place (now (body .entry)) ⌝ }
+{
+    let count = body.len();
+    let mut i = 0;
+    while i < count {
+        let stop = block_end(i, count);
+        if 0 < bad_numbers(&body[i..stop], below, none) {
+            return run_check(&body[i..count], place + i, below, none);
+        }
+        i = stop;
     }
     Outcome::Passes
 }

@@ -1,4 +1,4 @@
--- `rule::check::table_check` meets its contract. The loop's invariant: the check of the whole table is that of what is left.
+-- `rule::check::run_check` meets its contract. The loop's invariant: the check of the whole table is that of what is left.
 -- Assumes nothing.
 use borrow.Author.Needs.{needs}
 use mathlib.Core.Path.{_≡_, sym, _∙_}
@@ -12,8 +12,8 @@ use borrow.Author.Tests.{not-true, not-false}
 use Rattle.meaning.specs.RuleFile.{tableCheck}
 use Rattle.rule.specs.Checks.{outcomeSays, inRange}
 use Rattle.rule.proofs.Steps.{table-on, table-bad, table-end}
-use Rattle.rule.proofs.check.table_check.Statement.{statement}
-use Rattle.rule.proofs.check.table_check.Tie as tie
+use Rattle.rule.proofs.check.run_check.Statement.{statement}
+use Rattle.rule.proofs.check.run_check.Tie as tie
 
 abbrev Inv-loop : tie.InvT-loop
 Inv-loop body place below none i₀ i =
@@ -67,8 +67,8 @@ returns-2 c =
     let all : i ≡ length (now (a .body)) = omega arith in
     sym (c .before .loop .inv .1 ∙ rw all (table-end (inRange (a .below) (a .none)) (a .place + length (now (a .body))) (now (a .body))))
 
-pub table-check-spec : {M : Type 1} → statement M
-table-check-spec =
+pub run-check-spec : {M : Type 1} → statement M
+run-check-spec =
     tie.close
     (tie.spec
     Inv-loop
