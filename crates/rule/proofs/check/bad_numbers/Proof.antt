@@ -30,7 +30,7 @@ out-of-range-requires : tie.Need-out-of-range-requires Inv-loop μ-loop
 out-of-range-requires c κs = search needs
 
 add-bad : tie.Need-add-bad Inv-loop μ-loop
-add-bad c = ?
+add-bad c = omega (arith, c .out-of-range .ensures .0, c .before .before .before .loop .inv .1, c .before .before .before .before .before .pre)
 
 add-i : tie.Need-add-i Inv-loop μ-loop
 add-i c = omega arith
@@ -39,7 +39,16 @@ loop-less : tie.Need-loop-less Inv-loop μ-loop
 loop-less c = omega arith
 
 loop-again : tie.Need-loop-again Inv-loop μ-loop
-loop-again c = ?
+loop-again c =
+    let s = c .before .before .before .loop in
+    let out = c .out-of-range .ensures in (
+      omega arith,
+      omega (arith, out .0, s .inv .1),
+      λ z j h.
+          by-cases (j =? s .i)
+          (λ same. let e : j ≡ s .i = eqb-true j (s .i) same in rw e (out .1 (omega arith)))
+          (λ other. s .inv .2 (omega arith) j (omega (arith, eqb-false j (s .i) other))),
+    )
 
 returns : tie.Need-returns Inv-loop μ-loop
 returns c z j h = c .before .loop .inv .2 z j (omega arith)
