@@ -13,6 +13,7 @@ use generate::damage::damaged;
 use generate::rules::random_rule;
 use generate::{Inputs, Prng};
 use host::{Answer, Store, Tables, ANSWER};
+use reader::calls::DEFAULT_CEILING;
 use reader::check::take_apart;
 use reader::{End, Fed, Level, Opening, Outcome, Reading, Refusal, Rule};
 use std::fmt::Debug;
@@ -136,7 +137,8 @@ impl Comparison<'_> {
         if answer[0] == 0 {
             let (first, events) = (reading_of(&answer), &call.events);
             answer = held;
-            host::feed(file, &book_after, u32::MAX, first, &mut lent, events, &mut answer);
+            let ceiling = DEFAULT_CEILING;
+            host::feed(file, &book_after, ceiling, first, &mut lent, events, &mut answer);
             if answer[0] == 0 {
                 let last = reading_of(&answer);
                 answer = held;

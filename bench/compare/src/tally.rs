@@ -17,9 +17,9 @@ pub const LINE: Can = &[7, 8, 10, 11, 12, 17, 18];
 /// Why some numbers are not brought out.
 const NEVER: &str = "\
 -: that call does not give the number.
-9, 13, 16: a whole document and a program read from the reading that opening gives, under the
-    largest ceiling, and 4,294,967,296 events are more than a program's record holds and than are
-    asked here.";
+9, 13, 16: a whole document and a program read from the reading that opening gives, a program under
+    the largest ceiling, and 1,000,001 looks of a whole document and 4,294,967,296 events are more
+    than are asked here; `compare/tests/ceiling.rs` asks for the looks.";
 
 /// From so many inputs on, every number that can be given must have been.
 const ENOUGH: u64 = 10_000;
