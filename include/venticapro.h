@@ -1,21 +1,33 @@
-/* Venticapro for programs in C11 and C++: the proved calls, as they lie in libventicapro.a.
+/* Venticapro for programs in C11 and C++: the proved calls, as they lie in libventicapro.a, for processors of 64 bits.
+ *
+ * A call is made in one of two ways. As it is exported, venticapro_NAME lays numbers into an array that it is lent. The inline
+ * function venticapro_do_NAME of this header makes the same call and gives its answer as a struct; use these, and nobody
+ * counts indices.
  *
  * Slices. Every slice is a pointer and, after it, a length counted in elements, not in bytes. A slice of length 0 may have
- * any pointer, NULL too. A pointer is aligned as its type asks. A slice that a call writes to, and the answer, must not
- * overlap any other slice of that call; slices that are only read may overlap each other.
+ * any pointer, NULL too. A pointer is aligned as its type asks, and nothing is said of one that is not: copy events out of a
+ * buffer of bytes into an array of uint16_t. A slice that a call writes to, and the answer, must not overlap any other slice
+ * of that call; slices that are only read may overlap each other.
  *
- * Answers. Every call lays its answer into an array of VENTICAPRO_ANSWER numbers, which is never NULL: the number of the
- * refusal or 0, its place or 0, the call's values, and zeros. The inline functions at the end of this header take it apart into structs.
- * A refused call leaves the book, the output and the letters as they were; only feeding has values where it refuses.
+ * Nothing that is lent has to be cleared before: not the answer, not the book for opening, not the output, not the level store.
+ * What a call does not write stays: book words past n+1, records of levels that were not opened, bytes and letters past
+ * those that were laid.
  *
- * Nothing is kept between calls: no global state, no allocation, nothing to initialise or to free. Calls may be made from
- * any thread, at the same time too, as long as no two of them are lent the same memory and one writes to it.
+ * Answers. A call lays its answer into an array of VENTICAPRO_ANSWER numbers: the number of the refusal or 0, its place or 0,
+ * the call's values, and zeros. The array is as long as the longest answer, and no call is told its length, so none finds it too
+ * short after it has written elsewhere; a pointer to fewer numbers, or NULL, is the one mistake here that no call can notice.
  *
- * A call needs less than 1,024 bytes of stack; its time grows with the events that it is lent.
+ * Refusals. Whatever is in the slices, a call answers or refuses. What each refusal means is in docs/NUMBERS.md, and
+ * venticapro_sentence gives its words. A refused call has written nothing but its answer, with two exceptions: feeding takes
+ * the events before the one that it refuses, and has its values also then; and venticapro_read_document leaves what opening
+ * and feeding left.
  *
- * Nothing that is lent has to be cleared before: not the answer, not the book for opening, not the level store.
+ * Threads. Nothing is kept between calls: no global state, no allocation, nothing to initialise or to free. Calls may be made
+ * from any thread, at the same time too, as long as no two of them are lent the same memory and one writes to it.
  *
- * What each refusal means is in docs/NUMBERS.md; venticapro_sentence gives its words. */
+ * Stack and time. A call needs at most VENTICAPRO_STACK bytes of stack, and an inline function its answer of 128 bytes and
+ * its parameters beside that. A call's time grows with the events that it is lent, and by the rule check, which every call
+ * but the writer begins with. */
 #ifndef VENTICAPRO_H
 #define VENTICAPRO_H
 
@@ -29,12 +41,18 @@ extern "C" {
 #define VENTICAPRO_ASSERT(holds, text) _Static_assert(holds, text)
 #endif
 
+VENTICAPRO_ASSERT(sizeof(size_t) == 8, "the archive is for processors of 64 bits");
+
 /* The version of the calls that this header is for: venticapro_version() answers the archive's. */
 #define VENTICAPRO_VERSION 1
 
 /* How many numbers an answer has. */
 #define VENTICAPRO_ANSWER 16
 
+/* How many bytes of stack a call needs at the most. */
+#define VENTICAPRO_STACK 1024
+
+/* The most states and the most letters of a rule: n is 1 to 64, k is 1 to 256. */
 #define VENTICAPRO_MOST_STATES 64
 #define VENTICAPRO_MOST_LETTERS 256
 /* The longest rule file, in bytes, and the longest book, in words. */
@@ -44,12 +62,14 @@ extern "C" {
 #define VENTICAPRO_NONE 255
 /* The mark: a level that has no first letter yet. */
 #define VENTICAPRO_NO_LETTER 65535
-/* Events: 0 opens a tree, 1 closes one, 2 + a is letter a. */
+/* Events: 0 opens a tree, 1 closes one, 2 + a is letter a, counted from 0. */
 #define VENTICAPRO_OPENS 0
 #define VENTICAPRO_CLOSES 1
 #define VENTICAPRO_LETTER(a) ((uint16_t)(2 + (a)))
-/* A ceiling that no count of looks passes. */
-#define VENTICAPRO_NO_CEILING UINT32_MAX
+/* The ceiling of venticapro_read_document: so many looks are made, and one more is refused with 9. */
+#define VENTICAPRO_DEFAULT_CEILING 1000000
+/* For feeding: a ceiling that no count of looks passes. */
+#define VENTICAPRO_NO_CEILING 4294967295
 
 /* One record of the level store: the state above the level, its first letter or the mark, and the place of its opening. */
 typedef struct venticapro_level {
@@ -68,40 +88,46 @@ VENTICAPRO_ASSERT(offsetof(venticapro_level, opened) == 4, "the place of the ope
 /* The version of the calls. */
 uint32_t venticapro_version(void);
 
-/* Checks a rule file. Values: states, initial state, tree start, letters. */
+/* Checks a rule file. Values: how many states, the initial state, the tree start or VENTICAPRO_NONE, how many letters. */
 void venticapro_check_rule(const uint8_t *file, size_t file_length, uint64_t answer[VENTICAPRO_ANSWER]);
 
 /* Writes a rule file into the output. Value: the count of bytes. With too short an output it refuses with 14, and the place
- * is the count of bytes needed: an output of length 0 asks for the size. */
+ * is the count of bytes needed: an output of length 0 asks for the size. Refused, it leaves the output as it was. */
 void venticapro_write_rule(uint8_t states, uint8_t initial, uint8_t tree_start, uint16_t letters,
                            const uint8_t *letter_moves, size_t letter_moves_length,
                            const uint8_t *tree_moves, size_t tree_moves_length,
                            const uint8_t *classes, size_t classes_length,
                            uint8_t *output, size_t output_length, uint64_t answer[VENTICAPRO_ANSWER]);
 
-/* Opens a rule: makes its book in the words lent. Values: how many states are still, and the fresh reading. */
+/* Opens a rule: makes its book, n+1 words. Values: how many states are still, and the fresh reading. Refused, it leaves the
+ * book as it was. A reading goes on with this book, or, for full reading, with n+1 words of zeros. */
 void venticapro_open(const uint8_t *file, size_t file_length, uint64_t *book, size_t book_length,
                      uint64_t answer[VENTICAPRO_ANSWER]);
 
-/* Feeds events. Values, also where it refuses: how many it took, and the reading after them. */
+/* Feeds events. Values, also where it refuses: how many it took, and the reading after them. It stores the levels that the
+ * events taken opened; a refused event changes nothing, and may be fed again. Refused before the first event, it leaves the
+ * level store as it was, and the reading that it gives is the one that it was handed. The ceiling is of the looks of the whole
+ * reading. */
 void venticapro_feed(const uint8_t *file, size_t file_length, const uint64_t *book, size_t book_length, uint32_t ceiling,
                      uint8_t state, uint32_t depth, uint32_t skip, uint32_t taken, uint32_t looks, uint16_t first,
                      venticapro_level *levels, size_t levels_length, const uint16_t *events, size_t events_length,
                      uint64_t answer[VENTICAPRO_ANSWER]);
 
-/* Ends a reading. Values: the class of the verdict, and the end state. */
+/* Ends a reading. Values: the class of the verdict, and the end state. It writes nothing, and the reading may be fed on. */
 void venticapro_finish(const uint8_t *file, size_t file_length, const uint64_t *book, size_t book_length,
                        uint8_t state, uint32_t depth, uint32_t skip, uint32_t taken, uint32_t looks, uint16_t first,
                        const venticapro_level *levels, size_t levels_length, uint64_t answer[VENTICAPRO_ANSWER]);
 
-/* Lays the path to where a reading stands into the letters lent. Value: how many they are. With too few it refuses with 14,
- * and the place is how many are needed; one more than the levels of the store are always enough. */
+/* Lays the path to where a reading stands into the letters lent: the first letter of the top and of each stored level, from the
+ * outside, VENTICAPRO_NO_LETTER where there is none yet. Value: how many they are. With room for fewer it refuses with 14, and
+ * the place is how many are needed; one more than the levels of the store are always enough. Refused, it leaves the letters. */
 void venticapro_path(const uint8_t *file, size_t file_length, const uint64_t *book, size_t book_length,
                      uint8_t state, uint32_t depth, uint32_t skip, uint32_t taken, uint32_t looks, uint16_t first,
                      const venticapro_level *levels, size_t levels_length, uint16_t *letters, size_t letters_length,
                      uint64_t answer[VENTICAPRO_ANSWER]);
 
-/* Opens, feeds and finishes a whole document. Values: the class of the verdict, and the end state. */
+/* Opens, feeds and finishes a whole document, under VENTICAPRO_DEFAULT_CEILING. Values: the class of the verdict, and the end
+ * state. It leaves what these calls leave: a book once the rule is opened, and the levels that were stored. */
 void venticapro_read_document(const uint8_t *file, size_t file_length, uint64_t *book, size_t book_length,
                               venticapro_level *levels, size_t levels_length, const uint16_t *events, size_t events_length,
                               uint64_t answer[VENTICAPRO_ANSWER]);
@@ -159,18 +185,19 @@ typedef struct venticapro_refusal {
     uint64_t place;
 } venticapro_refusal;
 
-/* ---- the same calls on structs: each answer begins with its refusal, and has its values if that one's number is 0 */
+/* ---- what the calls answer, as structs: each begins with its refusal, and has its values where that one's number is 0 */
 
 /* Where a reading stands. A host hands it on unchanged, with the same rule, book and level store. */
 typedef struct venticapro_reading {
     uint8_t state;
-    uint32_t depth;
-    uint32_t skip;
-    uint32_t taken;
+    uint32_t depth; /* how many levels are stored */
+    uint32_t skip;  /* how many levels are open in a part that is passed over */
+    uint32_t taken; /* events */
     uint32_t looks;
-    uint16_t first;
+    uint16_t first; /* the top's first letter, or VENTICAPRO_NO_LETTER */
 } venticapro_reading;
 
+/* Of the rule check. */
 typedef struct venticapro_rule {
     venticapro_refusal refusal;
     uint8_t states;
@@ -179,21 +206,23 @@ typedef struct venticapro_rule {
     uint16_t letters;
 } venticapro_rule;
 
+/* Of the writer and of the path: how many bytes or letters were laid. */
 typedef struct venticapro_counted {
     venticapro_refusal refusal;
     size_t count;
 } venticapro_counted;
 
+/* Of opening. */
 typedef struct venticapro_opened {
     venticapro_refusal refusal;
-    uint32_t still;
+    uint32_t still; /* how many states are still */
     venticapro_reading reading;
 } venticapro_opened;
 
-/* Its values stand also where an event was refused. */
+/* Of feeding. Its values stand also where it was refused. */
 typedef struct venticapro_fed {
     venticapro_refusal refusal;
-    uint32_t took;
+    uint32_t took; /* how many of the events */
     venticapro_reading reading;
 } venticapro_fed;
 
@@ -203,11 +232,14 @@ typedef enum venticapro_class {
     VENTICAPRO_ACCEPT = 2
 } venticapro_class;
 
+/* Of finish and of a whole document. */
 typedef struct venticapro_end {
     venticapro_refusal refusal;
     venticapro_class verdict;
     uint8_t state;
 } venticapro_end;
+
+/* ---- an answer taken apart */
 
 static inline venticapro_refusal venticapro_refusal_in(const uint64_t answer[VENTICAPRO_ANSWER])
 {
@@ -225,6 +257,7 @@ static inline venticapro_counted venticapro_counted_in(const uint64_t answer[VEN
     return counted;
 }
 
+/* Of opening and of feeding: both have a count before it. */
 static inline venticapro_reading venticapro_reading_in(const uint64_t answer[VENTICAPRO_ANSWER])
 {
     venticapro_reading reading;
@@ -237,6 +270,35 @@ static inline venticapro_reading venticapro_reading_in(const uint64_t answer[VEN
     return reading;
 }
 
+static inline venticapro_rule venticapro_rule_in(const uint64_t answer[VENTICAPRO_ANSWER])
+{
+    venticapro_rule rule;
+    rule.refusal = venticapro_refusal_in(answer);
+    rule.states = (uint8_t)answer[2];
+    rule.initial = (uint8_t)answer[3];
+    rule.tree_start = (uint8_t)answer[4];
+    rule.letters = (uint16_t)answer[5];
+    return rule;
+}
+
+static inline venticapro_opened venticapro_opened_in(const uint64_t answer[VENTICAPRO_ANSWER])
+{
+    venticapro_opened opened;
+    opened.refusal = venticapro_refusal_in(answer);
+    opened.still = (uint32_t)answer[2];
+    opened.reading = venticapro_reading_in(answer);
+    return opened;
+}
+
+static inline venticapro_fed venticapro_fed_in(const uint64_t answer[VENTICAPRO_ANSWER])
+{
+    venticapro_fed fed;
+    fed.refusal = venticapro_refusal_in(answer);
+    fed.took = (uint32_t)answer[2];
+    fed.reading = venticapro_reading_in(answer);
+    return fed;
+}
+
 static inline venticapro_end venticapro_end_in(const uint64_t answer[VENTICAPRO_ANSWER])
 {
     venticapro_end end;
@@ -246,20 +308,16 @@ static inline venticapro_end venticapro_end_in(const uint64_t answer[VENTICAPRO_
     return end;
 }
 
-static inline venticapro_rule venticapro_rule_of(const uint8_t *file, size_t file_length)
+/* ---- the calls on structs */
+
+static inline venticapro_rule venticapro_do_check_rule(const uint8_t *file, size_t file_length)
 {
     uint64_t answer[VENTICAPRO_ANSWER];
-    venticapro_rule rule;
     venticapro_check_rule(file, file_length, answer);
-    rule.refusal = venticapro_refusal_in(answer);
-    rule.states = (uint8_t)answer[2];
-    rule.initial = (uint8_t)answer[3];
-    rule.tree_start = (uint8_t)answer[4];
-    rule.letters = (uint16_t)answer[5];
-    return rule;
+    return venticapro_rule_in(answer);
 }
 
-static inline venticapro_counted venticapro_rule_to(uint8_t states, uint8_t initial, uint8_t tree_start, uint16_t letters,
+static inline venticapro_counted venticapro_do_write_rule(uint8_t states, uint8_t initial, uint8_t tree_start, uint16_t letters,
                                                     const uint8_t *letter_moves, size_t letter_moves_length,
                                                     const uint8_t *tree_moves, size_t tree_moves_length,
                                                     const uint8_t *classes, size_t classes_length,
@@ -271,34 +329,26 @@ static inline venticapro_counted venticapro_rule_to(uint8_t states, uint8_t init
     return venticapro_counted_in(answer);
 }
 
-static inline venticapro_opened venticapro_opened_of(const uint8_t *file, size_t file_length, uint64_t *book,
+static inline venticapro_opened venticapro_do_open(const uint8_t *file, size_t file_length, uint64_t *book,
                                                      size_t book_length)
 {
     uint64_t answer[VENTICAPRO_ANSWER];
-    venticapro_opened opened;
     venticapro_open(file, file_length, book, book_length, answer);
-    opened.refusal = venticapro_refusal_in(answer);
-    opened.still = (uint32_t)answer[2];
-    opened.reading = venticapro_reading_in(answer);
-    return opened;
+    return venticapro_opened_in(answer);
 }
 
-static inline venticapro_fed venticapro_fed_by(const uint8_t *file, size_t file_length, const uint64_t *book,
+static inline venticapro_fed venticapro_do_feed(const uint8_t *file, size_t file_length, const uint64_t *book,
                                                size_t book_length, uint32_t ceiling, venticapro_reading reading,
                                                venticapro_level *levels, size_t levels_length, const uint16_t *events,
                                                size_t events_length)
 {
     uint64_t answer[VENTICAPRO_ANSWER];
-    venticapro_fed fed;
     venticapro_feed(file, file_length, book, book_length, ceiling, reading.state, reading.depth, reading.skip,
                     reading.taken, reading.looks, reading.first, levels, levels_length, events, events_length, answer);
-    fed.refusal = venticapro_refusal_in(answer);
-    fed.took = (uint32_t)answer[2];
-    fed.reading = venticapro_reading_in(answer);
-    return fed;
+    return venticapro_fed_in(answer);
 }
 
-static inline venticapro_end venticapro_end_of(const uint8_t *file, size_t file_length, const uint64_t *book,
+static inline venticapro_end venticapro_do_finish(const uint8_t *file, size_t file_length, const uint64_t *book,
                                                size_t book_length, venticapro_reading reading,
                                                const venticapro_level *levels, size_t levels_length)
 {
@@ -308,7 +358,7 @@ static inline venticapro_end venticapro_end_of(const uint8_t *file, size_t file_
     return venticapro_end_in(answer);
 }
 
-static inline venticapro_counted venticapro_path_to(const uint8_t *file, size_t file_length, const uint64_t *book,
+static inline venticapro_counted venticapro_do_path(const uint8_t *file, size_t file_length, const uint64_t *book,
                                                     size_t book_length, venticapro_reading reading,
                                                     const venticapro_level *levels, size_t levels_length,
                                                     uint16_t *letters, size_t letters_length)
@@ -319,7 +369,7 @@ static inline venticapro_counted venticapro_path_to(const uint8_t *file, size_t 
     return venticapro_counted_in(answer);
 }
 
-static inline venticapro_end venticapro_document(const uint8_t *file, size_t file_length, uint64_t *book,
+static inline venticapro_end venticapro_do_read_document(const uint8_t *file, size_t file_length, uint64_t *book,
                                                  size_t book_length, venticapro_level *levels, size_t levels_length,
                                                  const uint16_t *events, size_t events_length)
 {

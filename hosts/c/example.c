@@ -30,7 +30,7 @@ static void say_path(const uint8_t *file, size_t length, const uint64_t *book, s
                      const venticapro_level *levels)
 {
     static uint16_t letters[LEVELS + 1];
-    venticapro_counted path = venticapro_path_to(file, length, book, words, reading, levels, LEVELS, letters, LEVELS + 1);
+    venticapro_counted path = venticapro_do_path(file, length, book, words, reading, levels, LEVELS, letters, LEVELS + 1);
     size_t i;
     fputs("path", stderr);
     for (i = 0; i < path.count; i++) {
@@ -56,7 +56,7 @@ static int read_events(const uint8_t *file, size_t length, FILE *from, uint16_t 
 {
     static venticapro_level levels[LEVELS];
     uint64_t book[VENTICAPRO_LONGEST_BOOK];
-    venticapro_opened opened = venticapro_opened_of(file, length, book, VENTICAPRO_LONGEST_BOOK);
+    venticapro_opened opened = venticapro_do_open(file, length, book, VENTICAPRO_LONGEST_BOOK);
     venticapro_reading reading = opened.reading;
     venticapro_end end;
     size_t count;
@@ -65,7 +65,7 @@ static int read_events(const uint8_t *file, size_t length, FILE *from, uint16_t 
         return 2;
     }
     while ((count = take(from, events, block)) > 0) {
-        venticapro_fed fed = venticapro_fed_by(file, length, book, VENTICAPRO_LONGEST_BOOK, VENTICAPRO_NO_CEILING, reading,
+        venticapro_fed fed = venticapro_do_feed(file, length, book, VENTICAPRO_LONGEST_BOOK, VENTICAPRO_NO_CEILING, reading,
                                                levels, LEVELS, events, count);
         reading = fed.reading;
         if (fed.refusal.number != VENTICAPRO_FINE) {
@@ -74,7 +74,7 @@ static int read_events(const uint8_t *file, size_t length, FILE *from, uint16_t 
             return 1;
         }
     }
-    end = venticapro_end_of(file, length, book, VENTICAPRO_LONGEST_BOOK, reading, levels, LEVELS);
+    end = venticapro_do_finish(file, length, book, VENTICAPRO_LONGEST_BOOK, reading, levels, LEVELS);
     if (end.refusal.number != VENTICAPRO_FINE) {
         say("skip", end.refusal);
         say_path(file, length, book, VENTICAPRO_LONGEST_BOOK, reading, levels);

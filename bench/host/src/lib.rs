@@ -3,7 +3,24 @@
 use reader::{Level, Reading};
 use venticapro::calls;
 
-pub use calls::{check_rule, open, write_rule, Answer, Tables, ANSWER};
+pub use calls::{check_rule, open, Answer, ANSWER};
+pub use venticapro::Tables;
+
+/// The writer. Value: the count of bytes.
+pub fn write_rule(tables: Tables, output: &mut [u8], answer: &mut Answer) {
+    let Tables { states, initial, tree_start, letters, letter_moves, tree_moves, classes } = tables;
+    calls::write_rule(
+        states,
+        initial,
+        tree_start,
+        letters,
+        letter_moves,
+        tree_moves,
+        classes,
+        output,
+        answer,
+    )
+}
 
 /// A level store as the calls are lent it.
 #[derive(Clone, Debug)]

@@ -2,22 +2,22 @@
 //! verdict. The calls themselves are proved and linked from `libventicapro.a`; what is here only hands over and takes apart.
 //!
 //! ```
-//! use venticapro::{Rule, Tables, Verdict};
+//! use venticapro::{letter, Rule, Tables, Verdict, NONE};
 //!
 //! // One state, which accepts; one letter, which stays in it; no trees.
 //! let file = Rule::write(Tables {
 //!     states: 1,
 //!     initial: 0,
-//!     tree_start: 255,
+//!     tree_start: NONE,
 //!     letters: 1,
 //!     letter_moves: &[0],
-//!     tree_moves: &[255],
-//!     classes: &[2],
+//!     tree_moves: &[NONE],
+//!     classes: &[Verdict::Accept as u8],
 //! })?;
 //! let opened = Rule::check(&file)?.open()?;
 //! let mut reader = opened.reader(1024);
-//! reader.feed(&[2, 2])?;
-//! reader.feed(&[2])?;
+//! reader.feed(&[letter(0), letter(0)])?;
+//! reader.feed(&[letter(0)])?;
 //! assert_eq!(reader.finish()?.verdict, Verdict::Accept);
 //! # Ok::<(), venticapro::Refusal>(())
 //! ```
@@ -26,12 +26,23 @@
 pub mod calls;
 mod refusal;
 
-pub use calls::Tables;
 use calls::{Answer, ANSWER};
 pub use refusal::Refusal;
 
 /// The version of the calls that this crate is for; [`calls::version`] answers that of the archive.
 pub const VERSION: u32 = 1;
+
+/// The most states that a rule has.
+pub const MOST_STATES: u8 = 64;
+
+/// The most letters that a rule has.
+pub const MOST_LETTERS: u16 = 256;
+
+/// No move, no tree start: the byte of a rule's tables.
+pub const NONE: u8 = 255;
+
+/// The bytes of the longest rule file.
+pub const LONGEST_FILE: usize = 20573;
 
 /// The words of the longest book: one for each of 64 states, and one more.
 pub const LONGEST_BOOK: usize = 65;
@@ -39,8 +50,22 @@ pub const LONGEST_BOOK: usize = 65;
 /// The mark in [`Level::first`] and [`Reading::first`]: no letter yet.
 pub const NO_LETTER: u16 = 65535;
 
-/// A ceiling that no count of looks passes.
-pub const NO_CEILING: u32 = u32::MAX;
+/// The ceiling of [`Rule::read`]: so many looks are made, and one more is refused with 9.
+pub const DEFAULT_CEILING: u32 = 1000000;
+
+/// A ceiling that no count of looks passes, and that of a [`Reader`] that is given no other.
+pub const NO_CEILING: u32 = 4294967295;
+
+/// The event that opens a tree.
+pub const OPENS: u16 = 0;
+
+/// The event that closes a tree.
+pub const CLOSES: u16 = 1;
+
+/// The event of letter a, counted from 0.
+pub const fn letter(a: u8) -> u16 {
+    2 + a as u16
+}
 
 /// One record of the level store, laid out as the calls have it.
 #[repr(C)]
@@ -118,6 +143,48 @@ impl End {
     }
 }
 
+/// The numbers and tables that a rule file is written from.
+#[derive(Clone, Copy, Debug)]
+pub struct Tables<'a> {
+    /// How many states there are, 1 to 64.
+    pub states: u8,
+    /// The state that a document begins in.
+    pub initial: u8,
+    /// The state that a tree begins in, or [`NONE`].
+    pub tree_start: u8,
+    /// How many letters there are, 1 to 256.
+    pub letters: u16,
+    /// A row for each state, in it a byte for each letter: a state, or [`NONE`].
+    pub letter_moves: &'a [u8],
+    /// A row for each upper state, in it a byte for each lower state: a state, or [`NONE`].
+    pub tree_moves: &'a [u8],
+    /// A byte for each state: the number of its [`Verdict`].
+    pub classes: &'a [u8],
+}
+
+impl Tables<'_> {
+    /// Writes the rule file into an output, and answers its count of bytes. An output that is too short is refused with 14,
+    /// and the place is the count of bytes needed: an empty one asks for the size.
+    pub fn write_into(self, output: &mut [u8]) -> Result<usize, Refusal> {
+        let Tables { states, initial, tree_start, letters, letter_moves, tree_moves, classes } =
+            self;
+        let mut answer = [0; ANSWER];
+        calls::write_rule(
+            states,
+            initial,
+            tree_start,
+            letters,
+            letter_moves,
+            tree_moves,
+            classes,
+            output,
+            &mut answer,
+        );
+        Refusal::unless_fine(&answer)?;
+        Ok(answer[2] as usize)
+    }
+}
+
 /// An accepted rule file.
 #[derive(Clone, Copy, Debug)]
 pub struct Rule<'a> {
@@ -143,20 +210,16 @@ impl<'a> Rule<'a> {
         let mut answer = [0; ANSWER];
         calls::check_rule(file, &mut answer);
         Refusal::unless_fine(&answer)?;
-        let tree_start = Some(answer[4] as u8).filter(|&state| state != 255);
+        let tree_start = Some(answer[4] as u8).filter(|&state| state != NONE);
         let (states, initial, letters) = (answer[2] as u8, answer[3] as u8, answer[5] as u16);
         Ok(Rule { file, states, initial, tree_start, letters })
     }
 
     /// The bytes of the rule file that has these numbers and tables.
     pub fn write(tables: Tables) -> Result<Vec<u8>, Refusal> {
-        let mut answer = [0; ANSWER];
-        // an empty output asks for the size
-        calls::write_rule(tables, &mut [], &mut answer);
-        let needed = Refusal::unless_fine(&answer).map_or_else(Refusal::room, |()| Ok(0))?;
+        let needed = tables.write_into(&mut []).or_else(Refusal::room)?;
         let mut file = vec![0; needed];
-        calls::write_rule(tables, &mut file, &mut answer);
-        Refusal::unless_fine(&answer)?;
+        tables.write_into(&mut file)?;
         Ok(file)
     }
 
@@ -167,6 +230,16 @@ impl<'a> Rule<'a> {
         Refusal::unless_fine(&answer)?;
         let (still, first) = (answer[2] as u32, Reading::in_answer(&answer));
         Ok(Opened { file: self.file, book, still, first })
+    }
+
+    /// Opens, feeds and finishes one document, with room for so many open levels and under [`DEFAULT_CEILING`]. Where another
+    /// ceiling, blocks or the path are wanted, open the rule and feed a [`Reader`].
+    pub fn read(&self, levels: usize, events: &[u16]) -> Result<End, Refusal> {
+        let (mut book, mut answer) = ([0; LONGEST_BOOK], [0; ANSWER]);
+        let mut levels = vec![Level::default(); levels];
+        calls::read_document(self.file, &mut book, &mut levels, events, &mut answer);
+        Refusal::unless_fine(&answer)?;
+        Ok(End::in_answer(&answer))
     }
 }
 
@@ -214,7 +287,8 @@ pub struct Reader<'a> {
 }
 
 impl Reader<'_> {
-    /// From now on no more than so many looks are made, all in all.
+    /// From now on an event that needs a look is refused with 9 where so many are made, counted over the whole reading. At first
+    /// it is [`NO_CEILING`].
     pub fn set_ceiling(&mut self, ceiling: u32) {
         self.ceiling = ceiling;
     }

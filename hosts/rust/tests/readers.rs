@@ -1,9 +1,7 @@
 //! Readers by the rules of examples/: blocks, refusals, paths, threads.
 
-use venticapro::{calls, Refusal, Rule, Tables, Verdict, VERSION};
-
-const OPENS: u16 = 0;
-const CLOSES: u16 = 1;
+use venticapro::{calls, letter, Refusal, Rule, Tables, Verdict};
+use venticapro::{CLOSES, DEFAULT_CEILING, NO_CEILING, OPENS, VERSION};
 
 fn file(name: &str) -> Vec<u8> {
     let folder = concat!(env!("CARGO_MANIFEST_DIR"), "/../../examples/rules/");
@@ -58,9 +56,35 @@ fn a_refused_event_can_be_fed_again() {
     let refusal = reader.feed(KEPT).unwrap_err();
     assert_eq!((refusal.number, refusal.place), (9, 1));
     assert_eq!(reader.reading().taken, 1);
-    reader.set_ceiling(u32::MAX);
+    reader.set_ceiling(NO_CEILING);
     assert_eq!(reader.feed(&KEPT[1..]), Ok(()));
     assert_eq!(reader.finish().map(|end| end.verdict), Ok(Verdict::Accept));
+}
+
+#[test]
+fn a_whole_document_ends_as_its_reader_does() {
+    let file = file("stay-text");
+    let rule = Rule::check(&file).expect("a good rule");
+    for events in [KEPT, TURNED, &KEPT[..4], &[CLOSES]] {
+        let mut reader = rule.open().expect("65 words are enough").reader(16);
+        let ended = reader.feed(events).and_then(|()| reader.finish());
+        assert_eq!(rule.read(16, events), ended);
+    }
+}
+
+/// Letter 0 of rule A stays in a state that is not settled at the top, so every event is a look.
+#[test]
+fn a_whole_document_has_the_default_ceiling_and_a_reader_none() {
+    let file = file("rule-a");
+    let rule = Rule::check(&file).expect("a good rule");
+    let mut events = vec![letter(0); DEFAULT_CEILING as usize];
+    assert_eq!(rule.read(0, &events).map(|end| end.verdict), Ok(Verdict::Reject));
+    events.push(letter(0));
+    let refusal = rule.read(0, &events).unwrap_err();
+    assert_eq!((refusal.number, refusal.place), (9, DEFAULT_CEILING as u64));
+    let mut reader = rule.open().expect("65 words are enough").reader(0);
+    assert_eq!(reader.feed(&events), Ok(()));
+    assert_eq!(reader.reading().looks, DEFAULT_CEILING + 1);
 }
 
 #[test]
@@ -96,6 +120,7 @@ fn what_is_written_is_what_was_read() {
         tree_moves: &bytes[29..38],
         classes: &bytes[44..47],
     };
+    assert_eq!(tables.write_into(&mut []), Err(Refusal { number: 14, place: bytes.len() as u64 }));
     assert_eq!(Rule::write(tables), Ok(bytes.clone()));
     let refusal = Rule::write(Tables { states: 65, ..tables }).unwrap_err();
     assert_eq!((refusal.number, refusal.place), (4, 6));
