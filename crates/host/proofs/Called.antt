@@ -14,7 +14,9 @@ use ghost.Atoms.{Atoms}
 use contract.Monad.{Fun}
 use types.Kit.{Given, ‵}
 use denote.Laws.{Is}
+use denote.RattleType.{RattleType}
 use denote.Plain.{Nothing, nothing-tells}
+use denote.Array.{Array}
 use denote.Builtin.{u8, u16, u64}
 use denote.Slice.{sliceVal}
 use denote.Triple.Spec.{Meets}
@@ -28,19 +30,23 @@ use Rattle.levels.proofs.Element.{record-type}
 use Rattle.levels.proofs.InPlace.{Gives}
 use Rattle.levels.proofs.Passing.{Said, lent, replies-one, replies-with}
 use Rattle.levels.proofs.Loans.{at-list, MutLoan, as-mut, ShrLoan, as-shr}
+use Rattle.levels.proofs.RefLoans.{at-value, Holding, again}
 use Rattle.reading.specs.Whole.{ReadIs}
 use Rattle.reading.proofs.Called.{fed-value, end-value}
 use Rattle.reading.proofs.Traces.{traced-value}
 use Rattle.reading.proofs.read_document as read-document
 use Rattle.reading.proofs.read_document.Symbol.{name as #read-document}
-use Rattle.host.specs.Numbers.{laid, answerNumbers, countValue, judgedValues, fedNumbers}
-use Rattle.host.proofs.Answered.{answer-type, at-value, Holding, again}
+use Rattle.host.specs.Numbers.{answerLength, laid, answerNumbers, countValue, judgedValues, fedNumbers}
 use Rattle.host.proofs.answers.lay_fed as lay-fed
 use Rattle.host.proofs.answers.lay_fed.Symbol.{name as #lay-fed}
 use Rattle.host.proofs.answers.lay_traced as lay-traced
 use Rattle.host.proofs.answers.lay_traced.Symbol.{name as #lay-traced}
 use Rattle.host.proofs.answers.lay_end as lay-end
 use Rattle.host.proofs.answers.lay_end.Symbol.{name as #lay-end}
+
+-- the answer: 16 numbers
+abbrev pub answer-type : RattleType
+answer-type = Array u64 answerLength
 
 module _ {M : Type 1} {𝓤 : URA M} {H : Heap 𝓤} {A : Atoms 𝓤} (W : Given 𝓤 H A) (at-mem : Memory → SProp 𝓤) (run : Routine → Fun 𝓤) (𝓣 : Tables 𝓤 H) where
   pub lay-fed-by : (x : Fed) (held : List ℕ) → Meets 𝓤 H A lay-fed.signature (𝓣 .C #lay-fed) (lay-fed.spec 𝓤 H A at-mem run) → (κ : Lft) (q : Share) (γ : GName) {b o : ℕ} → FitsIn fed-value x

@@ -1,4 +1,3 @@
 pub mod Same
-pub mod Answered
 pub mod Called
 pub mod Numbered

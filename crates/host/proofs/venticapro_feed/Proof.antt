@@ -42,6 +42,7 @@ use Rattle.levels.proofs.Meets.{proved}
 use Rattle.levels.proofs.Element.{record-type}
 use Rattle.levels.proofs.InPlace.{learns, calls-by}
 use Rattle.levels.proofs.Loans.{Kept, Shown, recounted, shown}
+use Rattle.levels.proofs.RefLoans.{of-lent, Holding}
 use Rattle.meaning.specs.Calls.{feedCall, feedingSays}
 use Rattle.meaning.specs.declared.Fed.{Fed}
 use Rattle.meaning.proofs.Reading as Rd
@@ -49,9 +50,8 @@ use Rattle.meaning.proofs.Reading.Laws as Rd′
 use Rattle.reading.proofs.Passed.{reading-value}
 use Rattle.reading.proofs.Called.{fed-value, feed-by}
 use Rattle.host.specs.Numbers.{laid, fedNumbers, readingFrom, FeedLaid}
-use Rattle.host.proofs.Answered.{answer-type, of-lent, Holding}
 use Rattle.host.proofs.Same.{laid-fed}
-use Rattle.host.proofs.Called.{lay-fed-by}
+use Rattle.host.proofs.Called.{answer-type, lay-fed-by}
 use Rattle.reading.proofs.feed as feed
 use Rattle.reading.proofs.feed.Symbol as feed-def
 use Rattle.reading.proofs.feed.Symbol.{name as #feed}

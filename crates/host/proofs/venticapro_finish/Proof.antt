@@ -42,6 +42,7 @@ use Rattle.levels.proofs.Meets.{proved}
 use Rattle.levels.proofs.Element.{record-type}
 use Rattle.levels.proofs.InPlace.{calls-by}
 use Rattle.levels.proofs.Loans.{Shown, shown}
+use Rattle.levels.proofs.RefLoans.{of-lent, Holding}
 use Rattle.meaning.specs.Calls.{endSays, finishCall}
 use Rattle.meaning.specs.declared.End.{End}
 use Rattle.meaning.proofs.Reading as Rd
@@ -49,9 +50,8 @@ use Rattle.meaning.proofs.Reading.Laws as Rd′
 use Rattle.reading.proofs.Passed.{reading-value}
 use Rattle.reading.proofs.Called.{end-value, finish-by}
 use Rattle.host.specs.Numbers.{laid, answerNumbers, judgedValues, readingFrom}
-use Rattle.host.proofs.Answered.{answer-type, of-lent, Holding}
 use Rattle.host.proofs.Same.{laid-says}
-use Rattle.host.proofs.Called.{lay-end-by}
+use Rattle.host.proofs.Called.{answer-type, lay-end-by}
 use Rattle.reading.proofs.finish as finish
 use Rattle.reading.proofs.finish.Symbol as finish-def
 use Rattle.reading.proofs.finish.Symbol.{name as #finish}

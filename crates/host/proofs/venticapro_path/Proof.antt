@@ -41,6 +41,7 @@ use Rattle.levels.proofs.Meets.{proved}
 use Rattle.levels.proofs.Element.{record-type}
 use Rattle.levels.proofs.InPlace.{learns, calls-by}
 use Rattle.levels.proofs.Loans.{Kept, Shown, recounted, shown}
+use Rattle.levels.proofs.RefLoans.{of-lent, Holding}
 use Rattle.meaning.specs.Calls.{tracedSays, pathCall, pathLaid}
 use Rattle.meaning.specs.declared.Traced.{Traced}
 use Rattle.meaning.proofs.Reading as Rd
@@ -48,9 +49,8 @@ use Rattle.meaning.proofs.Reading.Laws as Rd′
 use Rattle.reading.proofs.Passed.{reading-value}
 use Rattle.reading.proofs.Traces.{traced-value, path-by}
 use Rattle.host.specs.Numbers.{answerNumbers, countValue, laid, readingFrom, PathLaid}
-use Rattle.host.proofs.Answered.{answer-type, of-lent, Holding}
 use Rattle.host.proofs.Same.{laid-says}
-use Rattle.host.proofs.Called.{lay-traced-by}
+use Rattle.host.proofs.Called.{answer-type, lay-traced-by}
 use Rattle.reading.proofs.path as path
 use Rattle.reading.proofs.path.Symbol as path-def
 use Rattle.reading.proofs.path.Symbol.{name as #path}

@@ -39,13 +39,13 @@ use Rattle.levels.proofs.Meets.{proved}
 use Rattle.levels.proofs.Element.{record-type}
 use Rattle.levels.proofs.InPlace.{learns, calls-by}
 use Rattle.levels.proofs.Loans.{Kept, Shown, recounted, shown}
+use Rattle.levels.proofs.RefLoans.{of-lent, Holding}
 use Rattle.meaning.specs.Calls.{Whole, endSays, wholeDocument}
 use Rattle.meaning.specs.declared.End.{End}
 use Rattle.reading.proofs.Called.{end-value}
 use Rattle.host.specs.Numbers.{laid, answerNumbers, judgedValues, DocumentLaid}
-use Rattle.host.proofs.Answered.{answer-type, of-lent, Holding}
 use Rattle.host.proofs.Same.{laid-read}
-use Rattle.host.proofs.Called.{lay-end-by, read-document-by}
+use Rattle.host.proofs.Called.{answer-type, lay-end-by, read-document-by}
 use Rattle.reading.proofs.read_document as read-document
 use Rattle.reading.proofs.read_document.Symbol as read-document-def
 use Rattle.reading.proofs.read_document.Symbol.{name as #read-document}

@@ -1,4 +1,4 @@
--- The lent answer in a walk, a `&mut` to an array or to any other type R: a parameter of the walked function (`Listed.antt`'s
+-- A `&mut` to one value of any type R, as to an array, in a walk: a parameter of the walked function (`Listed.antt`'s
 -- `Parameter`), and passed on to a callee (`Passing.antt`'s `Loan`).
 --     of-lent    a `&mut R` at the lifetime j, as a parameter
 --     Holding    what its holder has: the reference, owned at its value, with its lifetime's token
@@ -16,20 +16,13 @@ use ghost.Atoms.{Atoms, sem}
 use types.Kit.{Given, ‵, _⊛_, some, later, _$_, _∵_, !, qed, move, use2, use3, split, pick, fsplit, fjoin, await, updating, now as at-once, show, frame, done}
 use types.Tokens.{lft-new, lft-end}
 use denote.RattleType.{RattleType}
-use denote.Array.{Array}
-use denote.Builtin.{u64}
 use denote.Ref.{RefT, MutRef, ptr-vals, mut-tells, mut-lawful}
 use denote.Lend.{LentAgain, lends-again, comes-back}
 use denote.Signature.{AllWithin, meetAt, plain, mutRefTo}
 use denote.Triple.Walked.{stay-ref, goes-ref}
 use Rattle.levels.proofs.Listed.{Parameter}
 use Rattle.levels.proofs.Parameters.{unique}
 use Rattle.levels.proofs.Passing.{Loan}
-use Rattle.host.specs.Numbers.{answerLength}
-
--- the answer: 16 numbers
-abbrev pub answer-type : RattleType
-answer-type = Array u64 answerLength
 
 abbrev pub of-lent : {n : ℕ} (j : ℕ) → AllWithin n (j ∷ []) → RattleType → Parameter n
 of-lent {n} j ok R = record {
