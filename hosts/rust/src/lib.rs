@@ -293,7 +293,13 @@ impl Reader<'_> {
         self.ceiling = ceiling;
     }
 
-    /// Takes events. Where one is refused, those before it are taken, and the reading stands before it.
+    /// Makes room for so many open levels, where there was less: after an event refused with 8, which may then be fed again.
+    pub fn make_room(&mut self, levels: usize) {
+        self.levels.resize(levels.max(self.levels.len()), Level::default());
+    }
+
+    /// Takes events. Where one is refused, those before it are taken, and the reading stands before it: [`Reader::reading`]
+    /// says how many that are, all in all.
     pub fn feed(&mut self, events: &[u16]) -> Result<(), Refusal> {
         let mut answer = [0; ANSWER];
         calls::feed(

@@ -62,6 +62,18 @@ fn a_refused_event_can_be_fed_again() {
 }
 
 #[test]
+fn a_full_store_can_be_made_longer() {
+    let file = file("stay-text");
+    let mut reader =
+        Rule::check(&file).and_then(|rule| rule.open()).expect("a good rule").reader(1);
+    let refusal = reader.feed(KEPT).unwrap_err();
+    assert_eq!((refusal.number, refusal.place), (8, 1));
+    reader.make_room(16);
+    assert_eq!(reader.feed(&KEPT[1..]), Ok(()));
+    assert_eq!(reader.finish().map(|end| end.verdict), Ok(Verdict::Accept));
+}
+
+#[test]
 fn a_whole_document_ends_as_its_reader_does() {
     let file = file("stay-text");
     let rule = Rule::check(&file).expect("a good rule");
