@@ -14,8 +14,8 @@
  * those that were laid.
  *
  * Answers. A call lays its answer into an array of VENTICAPRO_ANSWER numbers: the number of the refusal or 0, its place or 0,
- * the call's values, and zeros. The array is as long as the longest answer, and no call is told its length, so none finds it too
- * short after it has written elsewhere; a pointer to fewer numbers, or NULL, is the one mistake here that no call can notice.
+ * the call's values, and zeros. The array has room for every call's values, and no call is told its length, so none finds it too
+ * short after it has written elsewhere; a pointer to fewer numbers, or NULL, is a mistake that no call can notice.
  *
  * Refusals. Whatever is in the slices, a call answers or refuses. What each refusal means is in docs/NUMBERS.md, and
  * venticapro_sentence gives its words. A refused call has written nothing but its answer, with two exceptions: feeding takes
