@@ -8,9 +8,22 @@ use host::venticapro_write_rule;
 
 fn numbers(name: &[u8], answer: &[u64; 16]) {
     lines::text(name);
-    for i in 0..16 {
-        lines::number(answer[i]);
-    }
+    lines::number(answer[0]);
+    lines::number(answer[1]);
+    lines::number(answer[2]);
+    lines::number(answer[3]);
+    lines::number(answer[4]);
+    lines::number(answer[5]);
+    lines::number(answer[6]);
+    lines::number(answer[7]);
+    lines::number(answer[8]);
+    lines::number(answer[9]);
+    lines::number(answer[10]);
+    lines::number(answer[11]);
+    lines::number(answer[12]);
+    lines::number(answer[13]);
+    lines::number(answer[14]);
+    lines::number(answer[15]);
     lines::text(b"\n");
 }
 

@@ -79,7 +79,10 @@ pub struct Level {
     pub opened: u32,
 }
 
-const _: () = assert!(size_of::<Level>() == 8);
+const _: () = assert!(size_of::<Level>() == 8 && align_of::<Level>() == 4);
+const _: () = assert!(std::mem::offset_of!(Level, above) == 0);
+const _: () = assert!(std::mem::offset_of!(Level, first) == 2);
+const _: () = assert!(std::mem::offset_of!(Level, opened) == 4);
 
 /// Where a reading stands.
 #[derive(Clone, Copy, Debug, PartialEq, Eq)]
