@@ -25,9 +25,9 @@
  * Threads. Nothing is kept between calls: no global state, no allocation, nothing to initialise or to free. Calls may be made
  * from any thread, at the same time too, as long as no two of them are lent the same memory and one writes to it.
  *
- * Stack and time. A call needs at most VENTICAPRO_STACK bytes of stack, and an inline function its answer of 128 bytes and
- * its parameters beside that. A call's time grows with the events that it is lent, and by the rule check, which every call
- * but the writer begins with. */
+ * Stack and time. A call needs at most VENTICAPRO_STACK bytes of stack, its parameters counted, and an inline function its
+ * answer of 128 bytes and its own parameters beside that. A call's time grows with the events that it is lent, and every call
+ * but the writer begins with the rule check, whose time grows with the rule file. */
 #ifndef VENTICAPRO_H
 #define VENTICAPRO_H
 
@@ -49,7 +49,7 @@ VENTICAPRO_ASSERT(sizeof(size_t) == 8, "the archive is for processors of 64 bits
 /* How many numbers an answer has. */
 #define VENTICAPRO_ANSWER 16
 
-/* How many bytes of stack a call needs at the most. */
+/* How many bytes of stack a call needs at the most, its parameters counted. */
 #define VENTICAPRO_STACK 1024
 
 /* The most states and the most letters of a rule: n is 1 to 64, k is 1 to 256. */
