@@ -3,3 +3,4 @@ pub mod Automaton
 pub mod Nested
 pub mod Streaming
 pub mod OfCalls
+pub mod RunsRead

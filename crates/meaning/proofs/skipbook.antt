@@ -6,3 +6,6 @@ pub mod Bits
 pub mod BookLong
 pub mod BookMade
 pub mod MoreSkipped
+pub mod Runs
+pub mod LargestBook
+pub mod EachWord

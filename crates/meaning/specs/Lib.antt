@@ -1,4 +1,4 @@
--- The definitions, a file for each heading of document 01, in its order.
+-- The definitions, a file for each heading of document 01, in its order; LargestBook is of document 02.
 pub mod Answers
 pub mod RuleFile
 pub mod FullReading
@@ -9,5 +9,6 @@ pub mod Skipping
 pub mod PassedOver
 pub mod Calls
 pub mod Demands
+pub mod LargestBook
 pub mod Cases
 pub mod CheckProgram

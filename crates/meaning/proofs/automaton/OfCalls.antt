@@ -27,12 +27,12 @@ use Rattle.meaning.proofs.stores.Opens.{open-says}
 use Rattle.meaning.proofs.demand3.Demand3Calls.{full-by-calls, calls-by-full}
 
 -- a stack of no levels is of no states, and the other way round
-no-aboves : (ls : List Level) → length ls ≡ 0 → aboves ls ≡ []
+pub no-aboves : (ls : List Level) → length ls ≡ 0 → aboves ls ≡ []
 unfolding aboves
 no-aboves [] none = refl
 no-aboves (l ∷ ls) none = absurd (omega arith)
 
-no-levels : (ls : List Level) → aboves ls ≡ [] → length ls ≡ 0
+pub no-levels : (ls : List Level) → aboves ls ≡ [] → length ls ≡ 0
 unfolding aboves
 no-levels [] none = refl
 no-levels (l ∷ ls) none = let z : _≡_ {A = ℕ} 0 1 = cc in absurd (omega arith)

@@ -39,7 +39,7 @@ pub record IsReading (R : Rule) (book : List ℕ) (r : Reading) (store : List Le
   pub firstIn : isFirst (R .letters) (r .first) ≡ true
   pub firstsIn : (i : ℕ) → i < r .depth → isFirst (R .letters) (getD store i blank .first) ≡ true
 
-is-state : {n q : ℕ} → q < n → isState n q ≡ true
+pub is-state : {n q : ℕ} → q < n → isState n q ≡ true
 unfolding isState
 is-state {n} {q} h = lt-ltb q n h
 

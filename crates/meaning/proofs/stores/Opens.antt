@@ -3,6 +3,7 @@
 -- of what is proved of these calls; and every accepted file is opened, where there is room for its book: nothing else refuses.
 use mathlib.Core.Path.{_≡_, refl, sym, ap, ap₂, _∙_}
 use mathlib.Core.Logic.{_⊎_, inl, inr, ⊎-elim}
+use mathlib.Core.Bool.{true}
 use mathlib.Core.List.{List}
 use Prim.Native.Nat.{ℕ, _+_, _≤_, _<_}
 use native.Mathlib.Omega.{arith}
@@ -13,10 +14,11 @@ use borrow.Author.Tests.{ltb-true, ltb-false}
 use Rattle.meaning.specs.declared.Level.{Level}
 use Rattle.meaning.specs.declared.Opening.{Opening}
 use Rattle.meaning.specs.Answers.{Answer, given, refused, _<?_}
-use Rattle.meaning.specs.RuleFile.{Rule, checkRule, ruleOf}
+use Rattle.meaning.specs.RuleFile.{Rule, isState, checkRule, ruleOf}
 use Rattle.meaning.specs.FullReading.{freshReading}
 use Rattle.meaning.specs.SkipBook.{IsBook, wordOf, stillMarks, makeBook}
 use Rattle.meaning.specs.Calls.{openCall, openedBook, readingCheck}
+use Rattle.meaning.specs.LargestBook.{readingIn}
 use Rattle.meaning.proofs.rulefile.Accepted.{accepted-rule, accepted-is-rule}
 use Rattle.meaning.proofs.laws.Truths.{truth}
 use Rattle.meaning.proofs.laws.Answered.{giving-given, giving-passes, giving-stops}
@@ -115,13 +117,12 @@ open-refusals file book {number} {place} e = go (checkRule file) refl
 
 -- ---- the fresh reading passes every check
 
--- it is a reading, over any store and with any book
-pub fresh-reading : (file book : List ℕ) (store : List Level) {R : Rule} → checkRule file ≡ given R
-    → IsReading R book (freshReading R) store
-unfolding freshReading
-fresh-reading file book store e =
+-- a reading that stands in a state of the rule, with nothing open, is one, over any store and with any book
+standing-reading : (R : Rule) (book : List ℕ) (store : List Level) (p : ℕ) → isState (R .states) p ≡ true
+    → IsReading R book (readingIn p) store
+standing-reading R book store p low =
     record {
-      stateIn = accepted-is-rule file e .initialIn;
+      stateIn = low;
       within = omega arith;
       aboveIn = λ i h. absurd (not-suc-le-zero h);
       skipsSettled = λ h. absurd (not-suc-le-zero h);
@@ -131,15 +132,27 @@ fresh-reading file book store e =
       firstsIn = λ i h. absurd (not-suc-le-zero h);
     }
 
-pub fresh-checked : (file book : List ℕ) (store : List Level) {R : Rule} → checkRule file ≡ given R → R .states + 1 ≤ length book
-    → readingCheck file book (freshReading R) store ≡ given R
-fresh-checked file book store {R} e long =
-    check-passes file book (freshReading R) store
+pub standing-checked : (file book : List ℕ) (store : List Level) (p : ℕ) {R : Rule} → checkRule file ≡ given R
+    → R .states + 1 ≤ length book → isState (R .states) p ≡ true → readingCheck file book (readingIn p) store ≡ given R
+standing-checked file book store p {R} e long low =
+    check-passes file book (readingIn p) store
     (record {
       accepted = e;
       longEnough = long;
-      isReading = reading-is R book (freshReading R) store (fresh-reading file book store e);
+      isReading = reading-is R book (readingIn p) store (standing-reading R book store p low);
     })
+
+-- so is the fresh one, which stands in the initial state
+pub fresh-reading : (file book : List ℕ) (store : List Level) {R : Rule} → checkRule file ≡ given R
+    → IsReading R book (freshReading R) store
+unfolding freshReading
+fresh-reading file book store {R} e = standing-reading R book store (R .initial) (accepted-is-rule file e .initialIn)
+
+pub fresh-checked : (file book : List ℕ) (store : List Level) {R : Rule} → checkRule file ≡ given R → R .states + 1 ≤ length book
+    → readingCheck file book (freshReading R) store ≡ given R
+unfolding freshReading
+fresh-checked file book store {R} e long =
+    standing-checked file book store (R .initial) e long (accepted-is-rule file e .initialIn)
 
 -- so the reading that opening gave passes the check of feed and finish, with any book of n+1 words: the one that it wrote, or
 -- one of zeros
