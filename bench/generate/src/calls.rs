@@ -1,5 +1,5 @@
 //! Arguments for the single calls: any book, any reading, any level store, any
-//! ceiling; and arguments for the writer.
+//! ceiling; and arguments for the writer and for the tool that completes a rule.
 
 use crate::damage::{damaged, records};
 use crate::events::random_events;
@@ -29,6 +29,14 @@ pub struct Writing {
     pub letter_moves: Vec<u8>,
     pub tree_moves: Vec<u8>,
     pub classes: Vec<u8>,
+    /// The length of the lent output.
+    pub room: usize,
+}
+
+/// The arguments of a call that completes a rule.
+#[derive(Clone, Debug)]
+pub struct Completing {
+    pub file: Vec<u8>,
     /// The length of the lent output.
     pub room: usize,
 }
@@ -226,4 +234,60 @@ pub fn random_writing(rng: &mut Prng) -> Writing {
         }
     }
     writing
+}
+
+/// A call that completes a rule: with gaps of every kind and without, up to 64
+/// states, and with room that may just do or just not.
+pub fn random_completing(rng: &mut Prng) -> Completing {
+    let mut rule = loop {
+        let rule = random_rule(rng);
+        if rule.n <= 8 || rule.n >= 63 || rng.chance(20) {
+            break rule;
+        }
+    };
+    match rng.below(6) {
+        // No gap, or no gap but the tree start.
+        0 => fill(rng, &mut rule),
+        1 => {
+            fill(rng, &mut rule);
+            rule.tree_start = None;
+        }
+        // A gap in one table.
+        2 => {
+            fill(rng, &mut rule);
+            let (q, a) = (rng.below(rule.n), rng.below(rule.k));
+            rule.letter_moves[q][a] = None;
+        }
+        3 => {
+            fill(rng, &mut rule);
+            let (u, q) = (rng.below(rule.n), rng.below(rule.n));
+            rule.tree_moves[u][q] = None;
+        }
+        _ => {}
+    }
+    let mut file = rule.to_file();
+    let needed = match rule.nones() {
+        0 => file.len(),
+        _ => file.len() + rule.k + 2 * rule.n + 2,
+    };
+    let room = match rng.below(8) {
+        0 => needed - 1,
+        1 => file.len(),
+        2 => rng.below(needed),
+        3 => needed + rng.below(40),
+        _ => needed,
+    };
+    if rng.chance(8) {
+        file = damaged(rng, &file);
+    }
+    Completing { file, room }
+}
+
+/// No move is missing.
+fn fill(rng: &mut Prng, rule: &mut Rule) {
+    let n = rule.n;
+    let tables = rule.letter_moves.iter_mut().chain(&mut rule.tree_moves).flatten();
+    for entry in tables.chain([&mut rule.tree_start]) {
+        *entry = entry.or_else(|| Some(rng.below(n)));
+    }
 }

@@ -1,4 +1,5 @@
-//! A second reading of document 01, written from the paper alone.
+//! A second reading of document 01 and of the requests of document 02 that landed,
+//! written from the papers alone.
 //!
 //! It serves only for comparison: plain safe code, tables in vectors, sets as
 //! sets, Reach by a walk over a graph. Readings are answered in three ways that
@@ -18,6 +19,7 @@
 pub mod book;
 pub mod calls;
 pub mod check;
+pub mod complete;
 pub mod hedge;
 pub mod numbers;
 pub mod positions;
@@ -29,6 +31,7 @@ pub mod writer;
 pub use book::Book;
 pub use calls::{finish, open, path, whole, Opening};
 pub use check::check_program;
+pub use complete::complete;
 pub use hedge::feed;
 pub use numbers::Refusal;
 pub use reading::{End, Fed, Level, Outcome, Reading, Report, Verdict, NO_LETTER};

@@ -38,6 +38,8 @@ pub const EVENTS_USED_UP: u8 = 16;
 pub const NO_TREE_START: u8 = 17;
 /// No tree move; place: the event.
 pub const NO_TREE_MOVE: u8 = 18;
+/// Gaps, and already 64 states; place 0.
+pub const NO_STATE_LEFT: u8 = 29;
 
 /// A number with its place.
 #[derive(Clone, Copy, Debug, PartialEq, Eq, Hash)]

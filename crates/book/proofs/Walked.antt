@@ -1,6 +1,6 @@
 -- The tables of an accepted file, walked: what each look finds is the rule's move, so the words that are joined stand for the
 -- states one move away.
-use mathlib.Core.Path.{_≡_, refl, sym, ap, ap₂, _∙_}
+use mathlib.Core.Path.{_≡_, refl, sym, ap, _∙_}
 use mathlib.Core.Bool.{Bool, true, false, not, _&&_, _||_}
 use mathlib.Core.List.{List}
 use Prim.Native.Nat.{ℕ, _+_, _-_, _^_, _≤_, _<_}
@@ -10,19 +10,16 @@ use lib.Count.{trailingZeros}
 use borrow.Author.Tests.{ne-eqb}
 use Rattle.meaning.specs.Answers.{_=?_}
 use Rattle.meaning.specs.RuleFile as format
-use Rattle.meaning.specs.RuleFile.{Move, none, asMove, letterMove, treeMove, treeStartMove, ruleOf}
+use Rattle.meaning.specs.RuleFile.{Move, none, letterMove, treeMove, treeStartMove, ruleOf}
 use Rattle.meaning.specs.SkipBook.{anyBelow, goesTo, noneOr, bit}
-use Rattle.meaning.proofs.skipbook.Reaching.{initial-below}
-use Rattle.meaning.proofs.skipbook.Rounds.{most-states}
 use Rattle.meaning.proofs.skipbook.Bits.{bit-zero, bit-past, cleared-less}
-use Rattle.meaning.proofs.rulefile.Accepted.{accepted-is-rule}
 use Rattle.rule.specs.declared.Rule.{Rule}
-use Rattle.rule.specs.Says.{numbersOf, RuleOf}
-use Rattle.rule.specs.declared.tables.Table.the-variants.{LetterMoves, TreeStart, TreeMoves}
+use Rattle.rule.specs.Says.{RuleOf}
+use Rattle.rule.specs.declared.tables.Table.the-variants.{TreeStart, TreeMoves}
 use Rattle.rule.specs.declared.tables.Move as tables
 use Rattle.rule.specs.declared.tables.Move.the-variants as found
-use Rattle.rule.specs.Tables.{letterByte, treeByte, moveSays, moveIn}
-use Rattle.rule.proofs.Looks.{found-is, letter-look, tree-look}
+use Rattle.rule.specs.Tables.{treeByte, moveSays, moveIn}
+pub use Rattle.rule.proofs.Accepting.{states-are, letters-are, few-states, has-states, letter-is, tree-is, start-is}
 use Rattle.book.specs.Sets.{StandsFor, StatesOf, stateOrNone, byLetters, byTrees, leadsTo, treesInto, firstOf, changing}
 use Rattle.book.proofs.Standing.{stands-as, stands-only, stands-empty, stands-more, members-below, lowest-first, Turn}
 use Rattle.meaning.proofs.laws.Truths.{or-true-left}
@@ -102,53 +99,15 @@ module _ (R : format.Rule) (lowers set u rest : ℕ) where
 -- ---- the moves of an accepted file
 
 module _ {file : List ℕ} {rule : Rule} (ok : RuleOf file rule) where
-  pub states-are : ruleOf file .states ≡ rule .states
-  unfolding numbersOf
-  states-are = ap (λ (r : Rule). r .states) (ok .numbers)
-
-  pub letters-are : ruleOf file .letters ≡ rule .letters
-  unfolding numbersOf
-  letters-are = ap (λ (r : Rule). r .letters) (ok .numbers)
-
-  -- a rule has at most 64 states
-  pub few-states : rule .states ≤ 64
-  few-states = omega (arith, most-states (accepted-is-rule file (ok .accepted)), states-are)
-
-  -- and one at least
-  pub has-states : 0 < rule .states
-  has-states = omega (arith, initial-below (accepted-is-rule file (ok .accepted)), states-are)
-
-  -- what was found among the letter moves, and among the tree moves
-  pub letter-is : (q a : ℕ) {found : tables.Move} → found ≡ moveIn LetterMoves (letterByte file (rule .letters) q a)
-      → q < rule .states → a < rule .letters → moveSays found ≡ letterMove (ruleOf file) q a
-  letter-is q a read hq ha =
-      ap moveSays read
-      ∙ found-is LetterMoves _
-      ∙ ap (λ (k : ℕ). asMove (letterByte file k q a)) (sym letters-are)
-      ∙ letter-look file (ok .accepted) q a (rw states-are hq) (rw letters-are ha)
-
-  pub tree-is : (u q : ℕ) {found : tables.Move} → found ≡ moveIn TreeMoves (treeByte file (rule .states) (rule .letters) u q)
-      → u < rule .states → q < rule .states → moveSays found ≡ treeMove (ruleOf file) u q
-  tree-is u q read hu hq =
-      ap moveSays read
-      ∙ found-is TreeMoves _
-      ∙ ap₂ (λ (n k : ℕ). asMove (treeByte file n k u q)) (sym states-are) (sym letters-are)
-      ∙ tree-look file (ok .accepted) u q (rw states-are hu) (rw states-are hq)
-
-  pub start-is : {found : tables.Move} → found ≡ moveIn TreeStart (rule .«tree_start») → moveSays found ≡ treeStartMove (ruleOf file)
-  unfolding numbersOf treeStartMove
-  start-is read =
-      ap moveSays read ∙ found-is TreeStart _ ∙ ap (λ (r : Rule). asMove (r .«tree_start»)) (sym (ok .numbers))
-
   pub start-goes : (w : ℕ) {found : tables.Move} → found ≡ moveIn TreeStart (rule .«tree_start»)
       → StandsFor w (λ p. goesTo p (moveSays found)) → StandsFor w (λ p. goesTo p (treeStartMove (ruleOf file)))
-  start-goes w read s = stands-as w _ _ (λ p h. ap (goesTo p) (start-is read)) s
+  start-goes w read s = stands-as w _ _ (λ p h. ap (goesTo p) (start-is ok read)) s
 
   -- all letters
   pub letters-walked : (q set : ℕ) → Walked (letterMove (ruleOf file) q) (rule .letters) set → StandsFor set (byLetters (ruleOf file) q)
   unfolding byLetters
   letters-walked q set s =
-      stands-as set _ _ (λ p h. ap (λ (k : ℕ). anyBelow k (λ a. goesTo p (letterMove (ruleOf file) q a))) (sym letters-are)) s
+      stands-as set _ _ (λ p h. ap (λ (k : ℕ). anyBelow k (λ a. goesTo p (letterMove (ruleOf file) q a))) (sym (letters-are ok))) s
 
   -- the members of a set of lower states, before the first: nothing is joined
   pub trees-first : (u lowers : ℕ) → lowers < 2 ^ 64 → StatesOf (rule .states) lowers
@@ -159,8 +118,8 @@ module _ {file : List ℕ} {rule : Rule} (ok : RuleOf file rule) where
       record {
         small = small;
         same = λ p h. ap (λ (b : Bool). b || anyBelow 64 (λ m. bit lowers m && goesTo p (treeMove R u m))) (bit-zero p)
-            ∙ members-below (rule .states) lowers (λ m. goesTo p (treeMove R u m)) few-states states
-            ∙ ap (λ (n : ℕ). anyBelow n (λ m. bit lowers m && goesTo p (treeMove R u m))) (sym states-are);
+            ∙ members-below (rule .states) lowers (λ m. goesTo p (treeMove R u m)) (few-states ok) states
+            ∙ ap (λ (n : ℕ). anyBelow n (λ m. bit lowers m && goesTo p (treeMove R u m))) (sym (states-are ok));
       }
 
   -- whether they lead into a set, before the first
@@ -169,18 +128,18 @@ module _ {file : List ℕ} {rule : Rule} (ok : RuleOf file rule) where
   trees-left lowers set u small states =
       record {
         small = small;
-        left = ap (λ (n : ℕ). anyBelow n (λ m. bit lowers m && leadsTo set (treeMove (ruleOf file) u m))) states-are
-            ∙ sym (members-below (rule .states) lowers (λ m. leadsTo set (treeMove (ruleOf file) u m)) few-states states);
+        left = ap (λ (n : ℕ). anyBelow n (λ m. bit lowers m && leadsTo set (treeMove (ruleOf file) u m))) (states-are ok)
+            ∙ sym (members-below (rule .states) lowers (λ m. leadsTo set (treeMove (ruleOf file) u m)) (few-states ok) states);
       }
 
   -- what the look with a lower state finds leads where that lower state does
   pub tree-goes : (u m w : ℕ) {found : tables.Move} → found ≡ moveIn TreeMoves (treeByte file (rule .states) (rule .letters) u m)
       → u < rule .states → m < rule .states → StandsFor w (λ p. goesTo p (moveSays found)) → StandsFor w (treeHas (ruleOf file) u m)
-  tree-goes u m w read hu hm s = stands-as w _ _ (λ p h. ap (goesTo p) (tree-is u m read hu hm)) s
+  tree-goes u m w read hu hm s = stands-as w _ _ (λ p h. ap (goesTo p) (tree-is ok u m read hu hm)) s
 
   -- all lower states gathered
   pub changes-gathered : (u set : ℕ) → StandsFor set (firstOf (rule .states) (λ p. not (noneOr u (treeMove (ruleOf file) u p))))
       → StandsFor set (changing (ruleOf file) u)
   unfolding changing
   changes-gathered u set s =
-      stands-as set _ _ (λ p h. ap (λ (n : ℕ). firstOf n (λ l. not (noneOr u (treeMove (ruleOf file) u l))) p) (sym states-are)) s
+      stands-as set _ _ (λ p h. ap (λ (n : ℕ). firstOf n (λ l. not (noneOr u (treeMove (ruleOf file) u l))) p) (sym (states-are ok))) s

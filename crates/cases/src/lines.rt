@@ -1,5 +1,6 @@
 // A line for each case: its name, and what the call answered.
 use libc::STDOUT_FILENO;
+use complete::Completed;
 use meaning::End;
 use meaning::Fed;
 use meaning::Feeding;
@@ -94,6 +95,18 @@ pub fn written(name: &[u8], w: Written) {
             text(b"\n");
         }
         Written::Refused(r) => refused(r),
+    }
+}
+
+pub fn completed(name: &[u8], c: Completed) {
+    text(name);
+    match c {
+        Completed::Nones(count) => {
+            text(b" nones");
+            number(count as u64);
+            text(b"\n");
+        }
+        Completed::Refused(r) => refused(r),
     }
 }
 

@@ -1,5 +1,6 @@
 // The cases of document 01 that are not proved, and those of the requests: each call is made, and what it answers is printed.
 // The expected lines stand in the file stdout.
+mod completing;
 mod documents;
 mod ends;
 mod files;
@@ -24,4 +25,5 @@ fn main() {
     missing::moves();
     letters::cases();
     readings::refusals();
+    completing::cases();
 }

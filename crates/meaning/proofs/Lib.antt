@@ -6,4 +6,5 @@ pub mod skipbook
 pub mod stores
 pub mod demand3
 pub mod program
+pub mod completing
 pub mod Cases

@@ -4,6 +4,7 @@ pub mod Bools
 pub mod Truths
 pub mod Events
 pub mod Tables
+pub mod Entries
 pub mod FeedLaws
 pub mod FeedKeeps
 pub mod Following

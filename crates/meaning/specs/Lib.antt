@@ -1,4 +1,4 @@
--- The definitions, a file for each heading of document 01, in its order; LargestBook is of document 02.
+-- The definitions, a file for each heading of document 01, in its order, and then those that requests of document 02 add.
 pub mod Answers
 pub mod RuleFile
 pub mod FullReading
@@ -12,3 +12,4 @@ pub mod Demands
 pub mod LargestBook
 pub mod Cases
 pub mod CheckProgram
+pub mod Completing

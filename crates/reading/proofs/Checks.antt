@@ -31,15 +31,6 @@ use Rattle.reading.specs.Checks.{ruleIn, readingAnswer}
 use Rattle.turning.proofs.Steps.{turn-ready}
 use Rattle.turning.proofs.Turned.{states-are}
 
--- ---- the rule
-
--- the rule check gave these numbers: they are the accepted file's
-pub ruled-by : (file : List ℕ) (rule : Rule) → checkedSays (checked.Fine rule) ≡ checkAnswer file → RuleOf file rule
-ruled-by file rule e =
-    let f = fine-accepted file rule e in
-    let same = accepted-rule file (f .1) in
-    record { accepted = rw same (f .1); numbers = rw same (f .2) }
-
 -- ---- the answer, one law for each way it goes
 
 module _ (file book : List ℕ) (r : Reading) (store : List Level) where

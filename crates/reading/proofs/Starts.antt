@@ -22,7 +22,7 @@ use Rattle.turning.specs.Advancing.{startOf}
 use Rattle.turning.specs.declared.Going.{Going}
 use Rattle.reading.specs.Checks.{ruleIn}
 use Rattle.reading.specs.Whole.{openedReading, checkOpened, Begins}
-use Rattle.reading.proofs.Checks.{ruled-by}
+use Rattle.rule.proofs.Accepting.{ruled-by}
 
 -- the reading that opening gave
 pub first-is : (x : Opened) {o : Opening} → openedSays x ≡ given o → openedReading x ≡ o .reading

@@ -4,3 +4,4 @@ pub mod Steps
 pub mod Outcomes
 pub mod Stages
 pub mod Laying
+pub mod Accepting

@@ -2,34 +2,22 @@
 -- file, and an entry of a part stands in the file at the part's place and on.
 use mathlib.Core.Path.{_≡_, refl, sym, ap, _∙_}
 use mathlib.Core.Bool.{Bool, true, false}
-use mathlib.Core.List.{List, [], _∷_}
-use Prim.Native.Nat.{ℕ, zero, suc, _+_, _*_, _≤_, _<_}
-use native.Mathlib.Nat.{not-suc-le-zero, le-of-suc-le-suc, mul-le-mul-right, suc-mul}
+use mathlib.Core.List.{List}
+use Prim.Native.Nat.{ℕ, _+_, _*_, _<_}
 use native.Mathlib.Omega.{arith}
 use lib.ListN.{length, getD}
 use lib.Seq.{getD-take, getD-drop}
 use Rattle.meaning.specs.Answers.{given, if_then_else_, _=?_}
 use Rattle.meaning.specs.RuleFile.{Rule, to, noMove, none, part, checkRule, asMove, letterMove, treeMove, classOf}
+use Rattle.meaning.proofs.laws.Entries.{entry-in, getD-inside}
 use Rattle.meaning.proofs.rulefile.Accepted.{accepted-is-rule, letter-part, tree-part, class-part}
 use Rattle.rule.specs.declared.tables.Table.{Table}
 use Rattle.rule.specs.declared.tables.Move.the-variants.{To, NoneIn}
 use Rattle.rule.specs.Tables.{letterByte, treeByte, classByte, moveSays, moveIn}
 
--- inside a list what would stand past its end does not matter
-pub getD-inside : {A : Type 0} (l : List A) (i : ℕ) (d e : A) → i < length l → getD l i d ≡ getD l i e
-getD-inside [] i d e h = absurd (not-suc-le-zero h)
-getD-inside (x ∷ l) zero d e h = refl
-getD-inside (x ∷ l) (suc i) d e h = getD-inside l i d e (le-of-suc-le-suc h)
-
-part-at : (file : List ℕ) (place size i d : ℕ) → i < size → getD (part file place size) i d ≡ getD file (place + i) d
+pub part-at : (file : List ℕ) (place size i d : ℕ) → i < size → getD (part file place size) i d ≡ getD file (place + i) d
 unfolding part
 part-at file place size i d h = rw (getD-take, getD-drop)
-
--- a row and a column in range are an entry in range
-pub entry-below : (row column rows columns : ℕ) → row < rows → column < columns → row * columns + column < rows * columns
-entry-below row column rows columns h g =
-    let below : suc row * columns ≤ rows * columns = mul-le-mul-right columns h in
-    omega (arith, below, suc-mul row columns)
 
 -- what is found at a byte is the move that the byte is
 pub found-is : (table : Table) (byte : ℕ) → moveSays (moveIn table byte) ≡ asMove byte
@@ -47,7 +35,7 @@ module _ (file : List ℕ) {R : Rule} (accepted : checkRule file ≡ given R) wh
   letter-look q a hq ha =
       ap asMove
       (sym (ap (λ (l : List ℕ). getD l (q * R .letters + a) none) (letter-part file accepted)
-      ∙ part-at file _ _ _ none (entry-below q a (R .states) (R .letters) hq ha)))
+      ∙ part-at file _ _ _ none (entry-in q a (R .states) (R .letters) hq ha)))
 
   pub tree-look : (u q : ℕ) → u < R .states → q < R .states
       → asMove (treeByte file (R .states) (R .letters) u q) ≡ treeMove R u q
@@ -55,7 +43,7 @@ module _ (file : List ℕ) {R : Rule} (accepted : checkRule file ≡ given R) wh
   tree-look u q hu hq =
       ap asMove
       (sym (ap (λ (l : List ℕ). getD l (u * R .states + q) none) (tree-part file accepted)
-      ∙ part-at file _ _ _ none (entry-below u q (R .states) (R .states) hu hq)))
+      ∙ part-at file _ _ _ none (entry-in u q (R .states) (R .states) hu hq)))
 
   pub class-look : (q : ℕ) → q < R .states → classByte file (R .states) (R .letters) q ≡ classOf R q
   unfolding classByte classOf

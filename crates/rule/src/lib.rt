@@ -1,6 +1,6 @@
 // The rule file: the four numbers of a rule, the numbers of the format, and the answers of the check and of the writer.
 pub mod check;
-mod layout;
+pub mod layout;
 pub mod tables;
 pub mod writer;
 

@@ -47,7 +47,7 @@ fn move_in(table: Table, byte: u8) -> Move
 }
 
 // The product of two small numbers.
-pub(crate) fn product(a: u16, b: u16) -> usize
+pub fn product(a: u16, b: u16) -> usize
     ensures { λ r. ⌜ (r ≡ a * b) × (r < 2 ^ 32) ⌝ }
 {
     (a as usize) * (b as usize)

@@ -1,4 +1,5 @@
-// The writer: the numbers and tables of a rule, laid into a lent output as the bytes of its file.
+// The writer: the numbers and tables of a rule, laid into a lent output as the bytes of its file. The header of a record, a body that
+// is copied and the first record are laid here too for whoever completes a rule.
 use crate::Written;
 use crate::check::CLASSES;
 use crate::check::Outcome;
@@ -30,7 +31,7 @@ fn low(x: usize) -> u8
 }
 
 // The header of a record, laid down at a place.
-fn header(output: &mut [u8], place: usize, kind: u16, size: usize)
+pub fn header(output: &mut [u8], place: usize, kind: u16, size: usize)
     requires { ⌜ place + 6 ≤ length (now output) ⌝ }
     ensures { λ r. ⌜ now (output .exit) ≡ laid place (headerBytes kind size) (now (output .entry)) ⌝ }
 {
@@ -43,7 +44,7 @@ fn header(output: &mut [u8], place: usize, kind: u16, size: usize)
 }
 
 // A body, copied to the front of what is left of the output.
-fn copy_body(output: &mut [u8], body: &[u8])
+pub fn copy_body(output: &mut [u8], body: &[u8])
     requires { ⌜ length (now body) ≤ length (now output) ⌝ }
     ensures { λ r. ⌜ now (output .exit) ≡ laid 0 (now (body .entry)) (now (output .entry)) ⌝ }
 {
@@ -77,7 +78,7 @@ fn numbers_body(output: &mut [u8], states: u8, initial: u8, tree_start: u8, lett
 }
 
 // The first record.
-fn numbers(output: &mut [u8], states: u8, initial: u8, tree_start: u8, letters: u16)
+pub fn numbers(output: &mut [u8], states: u8, initial: u8, tree_start: u8, letters: u16)
     requires { ⌜ 11 ≤ length (now output) ⌝ }
     ensures { λ r. ⌜ now (output .exit) ≡ laid 0 (recordBytes 1 (numbersBody (ruleFrom states initial «tree_start» letters [] [] []))) (now (output .entry)) ⌝ }
 {

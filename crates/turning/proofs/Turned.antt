@@ -17,6 +17,7 @@ use Rattle.meaning.specs.declared.Level.{Level}
 use Rattle.meaning.proofs.laws.Answered.{and-true, refuse-passes}
 use Rattle.meaning.proofs.laws.Bools.{or-true-right}
 use Rattle.meaning.proofs.rulefile.Accepted.{accepted-is-rule}
+pub use Rattle.rule.proofs.Accepting.{states-are, letters-are, tree-start-is, initial-is, few-states, few-letters}
 use Rattle.rule.proofs.Looks.{letter-look, tree-look, class-look}
 use Rattle.rule.specs.Tables.{letterByte, treeByte, classByte, tableSays, moveIn}
 use Rattle.rule.specs.Says.{numbersOf, RuleOf}
@@ -99,44 +100,14 @@ still-settled book r top isNot = or-none (inStill book (r .state)) isNot
 -- ---- the numbers that the code holds are those of the rule
 
 module _ {file : List ℕ} {rule : Rule} (h : RuleOf file rule) where
-  pub states-are : ruleOf file .states ≡ rule .states
-  unfolding numbersOf
-  states-are = ap (λ (n : Rule). n .states) (h .numbers)
-
-  pub letters-are : ruleOf file .letters ≡ rule .letters
-  unfolding numbersOf
-  letters-are = ap (λ (n : Rule). n .letters) (h .numbers)
-
-  pub tree-start-is : ruleOf file .treeStart ≡ rule .«tree_start»
-  unfolding numbersOf
-  tree-start-is = ap (λ (n : Rule). n .«tree_start») (h .numbers)
-
-  pub initial-is : ruleOf file .initial ≡ rule .initial
-  unfolding numbersOf
-  initial-is = ap (λ (n : Rule). n .initial) (h .numbers)
-
-  pub few-states : rule .states ≤ 64
-  unfolding isStates
-  few-states =
-      let n : ℕ = ruleOf file .states in
-      let in-range = and-true (1 ≤? n) (n ≤? mostStates) (accepted-is-rule file (h .accepted) .statesIn) in
-      omega (arith, states-are, leb-true n mostStates (in-range .1))
-
-  pub few-letters : rule .letters ≤ 256
-  unfolding isLetters
-  few-letters =
-      let k : ℕ = ruleOf file .letters in
-      let in-range = and-true (1 ≤? k) (k ≤? mostLetters) (accepted-is-rule file (h .accepted) .lettersIn) in
-      omega (arith, letters-are, leb-true k mostLetters (in-range .1))
-
   -- ---- the class of a state is the one in the file, and one of the three
 
   pub class-is : (q : ℕ) → q < rule .states → classByte file (rule .states) (rule .letters) q ≡ classOf (ruleOf file) q
-  class-is q hq = rw (← states-are, ← letters-are) (class-look file (h .accepted) q (omega (arith, states-are)))
+  class-is q hq = rw (← (states-are h), ← (letters-are h)) (class-look file (h .accepted) q (omega (arith, (states-are h))))
 
   pub class-in : (q : ℕ) → q < rule .states → classOf (ruleOf file) q < classCount
   unfolding classOf isClass
-  class-in q hq = ltb-true _ _ (accepted-is-rule file (h .accepted) .classIn q (omega (arith, states-are)))
+  class-in q hq = ltb-true _ _ (accepted-is-rule file (h .accepted) .classIn q (omega (arith, (states-are h))))
 
   -- ---- an event that is within the limit and known is taken as its turn says
 
@@ -145,14 +116,14 @@ module _ {file : List ℕ} {rule : Rule} (h : RuleOf file rule) where
   unfolding knownEvent
   known-turn r e turn more known =
       refuse-passes 16 (r .taken) _ (lt-leb mostEvents (r .taken) more)
-      ∙ refuse-passes 10 (r .taken) _ (lt-leb (ruleOf file .letters + 2) e (omega (arith, letters-are)))
+      ∙ refuse-passes 10 (r .taken) _ (lt-leb (ruleOf file .letters + 2) e (omega (arith, (letters-are h))))
 
   -- ---- the book serves
 
   pub book-serves : (book : List ℕ) (r : Reading) (top : Level) → rule .states < length book → StatesIn rule r top
       → BookServes book r top
   book-serves book r top long states =
-      let few : rule .states ≤ 64 = few-states in
+      let few : rule .states ≤ 64 = (few-states h) in
       record {
         stateBit = omega arith;
         stillWord = omega arith;
@@ -166,13 +137,13 @@ module _ {file : List ℕ} {rule : Rule} (h : RuleOf file rule) where
       ≡ lookAt ceiling r LetterMoves (letterByte file (rule .letters) (r .state) a) (λ q. letterTurn a top (looked r q (r .depth)))
   unfolding fullTurn tableSays
   letter-turn room ceiling r top a hq ha =
-      rw (← letters-are, letter-look file (h .accepted) (r .state) a (omega (arith, states-are)) (omega (arith, letters-are)))
+      rw (← (letters-are h), letter-look file (h .accepted) (r .state) a (omega (arith, (states-are h))) (omega (arith, (letters-are h))))
 
   pub open-turn : (room ceiling : ℕ) (r : Reading) (top : Level) → r .depth < room
       → fullTurn (ruleOf file) room ceiling r top opens
       ≡ lookAt ceiling r TreeStart (rule .«tree_start») (λ q. stores (newLevel r) (looked r q (r .depth + 1)))
   unfolding fullTurn treeStartMove tableSays
-  open-turn room ceiling r top free = refuse-passes 8 (r .taken) _ (lt-leb room (r .depth) free) ∙ rw tree-start-is
+  open-turn room ceiling r top free = refuse-passes 8 (r .taken) _ (lt-leb room (r .depth) free) ∙ rw (tree-start-is h)
 
   pub close-turn : (room ceiling : ℕ) (r : Reading) (top : Level) → (r .depth ≡ 0 → ⊥)
       → r .state < rule .states → top .above < rule .states
@@ -181,4 +152,4 @@ module _ {file : List ℕ} {rule : Rule} (h : RuleOf file rule) where
   unfolding fullTurn tableSays
   close-turn room ceiling r top inside hq hu =
       refuse-passes 7 (r .taken) _ (ne-eqb (r .depth) 0 inside)
-      ∙ rw (← letters-are, ← states-are, tree-look file (h .accepted) (top .above) (r .state) (omega (arith, states-are)) (omega (arith, states-are)))
+      ∙ rw (← (letters-are h), ← (states-are h), tree-look file (h .accepted) (top .above) (r .state) (omega (arith, (states-are h))) (omega (arith, (states-are h))))

@@ -63,7 +63,8 @@ module _ (R : Rule) (room ceiling : ℕ) (events : List ℕ) where
         suffices = machine .1;
       }
 
-  followed : (j : Judged) → FollowsAutomaton R room ceiling events j
+  -- and the other way round
+  pub followed : (j : Judged) → FollowsAutomaton R room ceiling events j
       → (run .ended ≡ given tt) × (endOfRun R (run .last) ≡ given j)
   unfolding endOf freshReading aboves
   followed j f =

@@ -7,7 +7,7 @@ use Rattle.meaning.specs.Calls.{refusalSays, openedSays}
 use Rattle.meaning.proofs.skipbook.BookMade.{after-refused}
 use Rattle.meaning.proofs.stores.Opens.{open-unchecked}
 use Rattle.rule.proofs.Said.{refused-check}
-use Rattle.reading.proofs.Checks.{ruled-by}
+use Rattle.rule.proofs.Accepting.{ruled-by}
 use Rattle.reading.proofs.open.Statement.{statement}
 use Rattle.reading.proofs.open.Tie as tie
 

@@ -4,7 +4,7 @@ use borrow.Author.Needs.{needs}
 use mathlib.Core.Path.{sym}
 use denote.Ref.{now}
 use lib.ListN.{List·getD-eq-default}
-use Rattle.rule.proofs.Looks.{getD-inside}
+use Rattle.meaning.proofs.laws.Entries.{getD-inside}
 use Rattle.rule.proofs.tables.byte_or_none.Statement.{statement}
 use Rattle.rule.proofs.tables.byte_or_none.Tie as tie
 
