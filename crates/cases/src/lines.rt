@@ -1,6 +1,6 @@
 // A line for each case: its name, and what the call answered.
-use libc::STDOUT_FILENO;
 use complete::Completed;
+use libc::STDOUT_FILENO;
 use meaning::End;
 use meaning::Fed;
 use meaning::Feeding;
