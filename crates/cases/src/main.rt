@@ -3,6 +3,7 @@
 mod completing;
 mod documents;
 mod ends;
+mod exported;
 mod files;
 mod largest;
 mod letters;
@@ -26,4 +27,5 @@ fn main() {
     letters::cases();
     readings::refusals();
     completing::cases();
+    exported::cases();
 }
