@@ -100,6 +100,13 @@ void venticapro_write_rule(uint8_t states, uint8_t initial, uint8_t tree_start, 
                            const uint8_t *classes, size_t classes_length,
                            uint8_t *output, size_t output_length, uint64_t answer[VENTICAPRO_ANSWER]);
 
+/* Completes a rule: lays into the output the file of the rule with one new state, off-schema, in place of every VENTICAPRO_NONE;
+ * of a rule that has none, the same bytes. Value: how many the old rule had, its tree start counted. A rule that has one and
+ * already 64 states is refused with 29. With too short an output it refuses with 14, and the place is the count of bytes
+ * needed: an output of length 0 asks for the size. Refused, it leaves the output as it was. */
+void venticapro_complete(const uint8_t *file, size_t file_length, uint8_t *output, size_t output_length,
+                         uint64_t answer[VENTICAPRO_ANSWER]);
+
 /* Opens a rule: makes its book, n+1 words. Values: how many states are still, and the fresh reading. Refused, it leaves the
  * book as it was. A reading goes on with this book, or, for full reading, with n+1 words of zeros. */
 void venticapro_open(const uint8_t *file, size_t file_length, uint64_t *book, size_t book_length,
@@ -153,7 +160,8 @@ typedef enum venticapro_number {
     VENTICAPRO_SHORT_OUTPUT = 14,
     VENTICAPRO_TOO_MANY_EVENTS = 16,
     VENTICAPRO_NO_TREE_START = 17,
-    VENTICAPRO_NO_TREE_MOVE = 18
+    VENTICAPRO_NO_TREE_MOVE = 18,
+    VENTICAPRO_NO_STATE_LEFT = 29
 } venticapro_number;
 
 /* The words of a refusal's number, in which P stands for its place: those of docs/NUMBERS.md. NULL for any other number. */
@@ -177,6 +185,7 @@ static inline const char *venticapro_sentence(uint64_t number)
     case 16: return "event P (counted from 0) is one too many: 4,294,967,295 are taken already";
     case 17: return "event P (counted from 0) opens a level, and the rule has no tree start";
     case 18: return "event P (counted from 0) closes a level, and the rule has no tree move there";
+    case 29: return "the rule has gaps and already 64 states, so that none is left for the new one";
     default: return NULL;
     }
 }
@@ -207,7 +216,7 @@ typedef struct venticapro_rule {
     uint16_t letters;
 } venticapro_rule;
 
-/* Of the writer and of the path: how many bytes or letters were laid. */
+/* Of the writer and of the path: how many bytes or letters were laid. Of completing: how many nones the old rule had. */
 typedef struct venticapro_counted {
     venticapro_refusal refusal;
     size_t count;
@@ -327,6 +336,14 @@ static inline venticapro_counted venticapro_do_write_rule(uint8_t states, uint8_
     uint64_t answer[VENTICAPRO_ANSWER];
     venticapro_write_rule(states, initial, tree_start, letters, letter_moves, letter_moves_length, tree_moves,
                           tree_moves_length, classes, classes_length, output, output_length, answer);
+    return venticapro_counted_in(answer);
+}
+
+static inline venticapro_counted venticapro_do_complete(const uint8_t *file, size_t file_length, uint8_t *output,
+                                                        size_t output_length)
+{
+    uint64_t answer[VENTICAPRO_ANSWER];
+    venticapro_complete(file, file_length, output, output_length, answer);
     return venticapro_counted_in(answer);
 }
 

@@ -36,6 +36,8 @@ static const uint8_t rule_a[] = {5, 0, 0, 0, 1, 0, 3, 0, 0, 2, 0,
 #define LETTER_MOVES (rule_a + 17)
 #define TREE_MOVES (rule_a + 29)
 #define CLASSES (rule_a + 44)
+/* The bytes of rule A with one state more. */
+#define COMPLETED 57
 
 static venticapro_counted write_a(uint8_t *output, size_t length)
 {
@@ -61,6 +63,8 @@ static void null_with_length_zero(void)
     check(refuses(venticapro_do_check_rule(NULL, 0).refusal, VENTICAPRO_BYTES_END, 0), "no file: 1 at 0");
     counted = venticapro_do_write_rule(3, 0, 0, 2, NULL, 0, NULL, 0, NULL, 0, NULL, 0);
     check(refuses(counted.refusal, VENTICAPRO_WRONG_LENGTH, 11), "no tables: 3 at the record of the letter moves");
+    check(refuses(venticapro_do_complete(NULL, 0, NULL, 0).refusal, VENTICAPRO_BYTES_END, 0), "nothing to complete: 1 at 0");
+    check(refuses(venticapro_do_complete(rule_a, LENGTH, NULL, 0).refusal, VENTICAPRO_SHORT_OUTPUT, COMPLETED), "an empty output asks for the size of the completed rule");
     check(refuses(venticapro_do_open(NULL, 0, NULL, 0).refusal, VENTICAPRO_BYTES_END, 0), "nothing to open: 1 at 0");
     check(refuses(venticapro_do_open(rule_a, LENGTH, NULL, 0).refusal, VENTICAPRO_SHORT_BOOK, 0), "no book: 6");
     opened = venticapro_do_open(rule_a, LENGTH, book, 4);
@@ -91,6 +95,28 @@ static void size_of_a_rule(void)
     check(memcmp(output, rule_a, LENGTH) == 0 && output[LENGTH] == 7, "the bytes are rule A's, and the byte after them stays");
 }
 
+/* Rule A has two nones. Full reading of 0 3 1 3 ends where a letter move is missing: after completing, in the new state. */
+static void completed_rule(void)
+{
+    static const uint16_t events[] = {VENTICAPRO_OPENS, VENTICAPRO_LETTER(1), VENTICAPRO_CLOSES, VENTICAPRO_LETTER(1)};
+    uint8_t output[COMPLETED + 1], again[COMPLETED];
+    uint64_t zeros[4], book[5];
+    venticapro_level levels[1];
+    venticapro_fed fed = venticapro_do_feed(rule_a, LENGTH, zeros, 4, VENTICAPRO_NO_CEILING, fresh_a(zeros), levels, 1, events, 4);
+    venticapro_end end;
+    venticapro_counted completed;
+    check(refuses(fed.refusal, VENTICAPRO_NO_LETTER_MOVE, 3), "rule A has no letter move for event 3");
+    memset(output, 7, sizeof output);
+    completed = venticapro_do_complete(rule_a, LENGTH, output, COMPLETED - 1);
+    check(refuses(completed.refusal, VENTICAPRO_SHORT_OUTPUT, COMPLETED) && output[0] == 7, "a byte too few to complete, and the output stays");
+    completed = venticapro_do_complete(rule_a, LENGTH, output, sizeof output);
+    check(fine(completed.refusal) && completed.count == 2 && output[COMPLETED] == 7, "two nones, and the byte after the file stays");
+    end = venticapro_do_read_document(output, COMPLETED, book, 5, levels, 1, events, 4);
+    check(fine(end.refusal) && end.verdict == VENTICAPRO_OFF_SCHEMA && end.state == 3, "completed it ends off-schema, in the new state");
+    completed = venticapro_do_complete(output, COMPLETED, again, sizeof again);
+    check(fine(completed.refusal) && completed.count == 0 && memcmp(again, output, COMPLETED) == 0, "completed again it is as it was");
+}
+
 /* The longest rule, whose size and book are the header's. */
 static void longest_rule(void)
 {
@@ -100,6 +126,7 @@ static void longest_rule(void)
     venticapro_rule rule = venticapro_do_check_rule(output, sizeof output);
     check(fine(written.refusal) && written.count == sizeof output, "the longest file, its three tables in one slice");
     check(rule.states == VENTICAPRO_MOST_STATES && rule.letters == VENTICAPRO_MOST_LETTERS && rule.tree_start == VENTICAPRO_NONE, "its numbers");
+    check(refuses(venticapro_do_complete(output, sizeof output, NULL, 0).refusal, VENTICAPRO_NO_STATE_LEFT, 0), "no tree start and no state left: 29, also where the output is too short");
     check(refuses(venticapro_do_open(output, sizeof output, book, VENTICAPRO_LONGEST_BOOK - 1).refusal, VENTICAPRO_SHORT_BOOK, 0), "a word too few for its book");
     check(fine(venticapro_do_open(output, sizeof output, book, VENTICAPRO_LONGEST_BOOK).refusal), "its book");
 }
@@ -300,13 +327,16 @@ static void numbers_and_words(void)
     check(venticapro_version() == VENTICAPRO_VERSION, "the version of the header is the archive's");
     for (number = 1; number <= 18; number++)
         check((venticapro_sentence(number) == NULL) == (number == 15), "every number but 15 has words");
-    check(venticapro_sentence(0) == NULL && venticapro_sentence(19) == NULL, "0 and 19 have none");
+    for (number = 19; number <= 30; number++)
+        check((venticapro_sentence(number) == NULL) == (number != VENTICAPRO_NO_STATE_LEFT), "29 has words, and no other above 18");
+    check(venticapro_sentence(0) == NULL, "0 has none");
 }
 
 int main(void)
 {
     null_with_length_zero();
     size_of_a_rule();
+    completed_rule();
     longest_rule();
     zeros_after_the_numbers();
     refused_calls_write_nothing();

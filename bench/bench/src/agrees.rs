@@ -2,7 +2,7 @@
 //! generated arguments, against the second reading.
 
 use crate::plain;
-use generate::calls::random_call;
+use generate::calls::{random_call, random_completing};
 use generate::damage::damaged;
 use generate::rules::random_rule;
 use generate::Prng;
@@ -15,6 +15,7 @@ pub fn ask() {
         let mut rng = Prng::new(1, index);
         feeding(&mut rng);
         rule_files(&mut rng);
+        completing(&mut rng);
     }
 }
 
@@ -37,6 +38,16 @@ fn feeding(rng: &mut Prng) {
         );
         assert_eq!(expected, found);
     }
+}
+
+fn completing(rng: &mut Prng) {
+    let call = random_completing(rng);
+    let (mut expected, mut found) = (vec![7; call.room], vec![7; call.room]);
+    assert_eq!(
+        reader::complete(&call.file, &mut expected),
+        plain::complete(&call.file, &mut found)
+    );
+    assert_eq!(expected, found);
 }
 
 fn rule_files(rng: &mut Prng) {

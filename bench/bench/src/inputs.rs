@@ -29,6 +29,14 @@ pub fn mixing(n: usize, k: usize) -> Rule {
     rule_by(n, k, 1 % n, |_, _| rng.below(n))
 }
 
+/// Any state to any state, but of every eight moves one is missing.
+pub fn with_gaps(n: usize, k: usize) -> Rule {
+    let mut rule = mixing(n, k);
+    let moves = rule.letter_moves.iter_mut().chain(&mut rule.tree_moves).flatten();
+    moves.step_by(8).for_each(|entry| *entry = None);
+    rule
+}
+
 /// A letter leads from each state to the next, so that Reach and the set of the
 /// tree start, state 0, are as long as they can be and every round of opening
 /// but the last adds a state.

@@ -192,7 +192,7 @@ fn passing_over() -> Vec<Passing> {
     rows
 }
 
-/// Opening and the rule check, at the most states and letters.
+/// Opening, the rule check and completing, at the most states and letters.
 fn single_calls() -> Vec<Call> {
     let mut rows = Vec::new();
     for (name, rule) in [
@@ -257,5 +257,34 @@ fn single_calls() -> Vec<Call> {
         plain: safe,
         sum,
     });
+    rows.push(completing());
     rows
+}
+
+/// Completing a rule with gaps, of so many states that the longest file is written.
+fn completing() -> Call {
+    let rule = inputs::with_gaps(63, 256);
+    let (file, nones) = (rule.to_file(), rule.nones());
+    let [mut expected, mut linked, mut plainly] = [(); 3].map(|()| vec![0; Rule::LONGEST_FILE]);
+    let mut answer = [0; ANSWER];
+    assert_eq!(reader::complete(&file, &mut expected), Ok(nones));
+    host::complete(&file, &mut linked, &mut answer);
+    assert_eq!(answer[..3], [0, 0, nones as u64]);
+    assert_eq!(plain::complete(&file, &mut plainly), Ok(nones));
+    assert!([&linked, &plainly].iter().all(|output| **output == expected));
+
+    let [proved, plain, sum] = least(
+        REPETITIONS,
+        200,
+        [
+            &mut || {
+                host::complete(&file, &mut linked, &mut answer);
+                answer[2]
+            },
+            &mut || plain::complete(&file, &mut plainly).map_or(0, |nones| nones as u64),
+            &mut || plain::sum_bytes(&file),
+        ],
+    );
+    let safe = "tables copied into vectors";
+    Call { name: "completing, n 63 with gaps, to 20,573 bytes", safe, proved, plain, sum }
 }

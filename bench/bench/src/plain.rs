@@ -370,6 +370,51 @@ pub fn open_by_words(file: &[u8], book: &mut [u64]) -> Result<Opening, Refusal> 
     Ok(opening(&table, book[0].count_ones()))
 }
 
+/// Completing a rule: how many nones it had.
+pub fn complete(file: &[u8], output: &mut [u8]) -> Result<usize, Refusal> {
+    let table = Table::from_file(file)?;
+    let (n, k) = (table.n, table.k);
+    let moves = table.letter_moves.iter().chain(&table.tree_moves).chain([&table.tree_start]);
+    let nones = moves.filter(|&&to| to == NONE).count();
+    if nones > 0 && n == 64 {
+        return Err(Refusal::new(29, 0));
+    }
+    let states = if nones == 0 { n } else { n + 1 };
+    let needed = 4 * HEADER + 5 + states * k + states * states + states;
+    let Some(output) = output.get_mut(..needed) else {
+        return Err(Refusal::new(14, needed as u64));
+    };
+    if nones == 0 {
+        output.copy_from_slice(file);
+        return Ok(0);
+    }
+
+    let new = n as u8;
+    let or_new = |&to: &u8| if to == NONE { new } else { to };
+    let [low, high] = (k as u16).to_le_bytes();
+    let numbers = vec![states as u8, table.initial, or_new(&table.tree_start), low, high];
+    let mut letter_moves: Vec<u8> = table.letter_moves.iter().map(or_new).collect();
+    letter_moves.resize(states * k, new);
+    let mut tree_moves = Vec::with_capacity(states * states);
+    for row in table.tree_moves.chunks(n) {
+        tree_moves.extend(row.iter().map(or_new));
+        tree_moves.push(new);
+    }
+    tree_moves.resize(states * states, new);
+    let mut classes = table.classes;
+    classes.push(0);
+
+    let mut at = 0;
+    for (kind, body) in [(1u16, numbers), (2, letter_moves), (3, tree_moves), (4, classes)] {
+        output[at..at + 4].copy_from_slice(&(body.len() as u32).to_le_bytes());
+        output[at + 4..at + HEADER].copy_from_slice(&kind.to_le_bytes());
+        at += HEADER;
+        output[at..at + body.len()].copy_from_slice(&body);
+        at += body.len();
+    }
+    Ok(nones)
+}
+
 /// The memory limit: each event is read and added up.
 pub fn sum(events: &[u16]) -> u64 {
     events.iter().map(|&event| event as u64).sum()

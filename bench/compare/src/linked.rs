@@ -7,8 +7,8 @@
 //! too.
 
 use crate::disagreements;
-use crate::tally::{Can, Tally, FEED, FINISH, OPEN, PATH, RULE, WHOLE, WRITER};
-use generate::calls::{random_call, random_writing, Call, Writing};
+use crate::tally::{Can, Tally, COMPLETE, FEED, FINISH, OPEN, PATH, RULE, WHOLE, WRITER};
+use generate::calls::{random_call, random_completing, random_writing, Call, Completing, Writing};
 use generate::damage::damaged;
 use generate::rules::random_rule;
 use generate::{Inputs, Prng};
@@ -188,6 +188,17 @@ impl Comparison<'_> {
         self.same("writer", WRITER, &(writing, output, held), expected, found)
     }
 
+    fn complete(&mut self, call: &Completing, output: &[u8], held: &Answer) -> Result<(), String> {
+        let mut bytes = output.to_vec();
+        let completed = reader::complete(&call.file, &mut bytes);
+        let expected =
+            Left { output: bytes, ..Left::by(numbers(completed, |nones| vec![nones as u64])) };
+        let (mut output_after, mut answer) = (output.to_vec(), *held);
+        host::complete(&call.file, &mut output_after, &mut answer);
+        let found = Left { answer, output: output_after, ..Left::default() };
+        self.same("complete", COMPLETE, &(call, output, held), expected, found)
+    }
+
     /// The path to where a reading stands, into letters that may be too few.
     fn path(
         &mut self,
@@ -292,7 +303,11 @@ impl Comparison<'_> {
 
         let writing = random_writing(&mut rng);
         let output: Vec<u8> = (0..writing.room).map(|_| rng.word() as u8).collect();
-        self.write_rule(&writing, &output, &held)
+        self.write_rule(&writing, &output, &held)?;
+
+        let completing = random_completing(&mut rng);
+        let output: Vec<u8> = (0..completing.room).map(|_| rng.word() as u8).collect();
+        self.complete(&completing, &output, &held)
     }
 
     /// The cases printed in document 01, as whole documents and in full.

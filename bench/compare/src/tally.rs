@@ -7,6 +7,7 @@ pub type Can = &'static [u64];
 
 pub const RULE: Can = &[1, 2, 3, 4, 5];
 pub const WRITER: Can = &[3, 4, 14];
+pub const COMPLETE: Can = &[1, 2, 3, 4, 5, 14, 29];
 pub const OPEN: Can = &[1, 2, 3, 4, 5, 6];
 pub const FEED: Can = &[1, 2, 3, 4, 5, 6, 7, 8, 9, 10, 11, 13, 16, 17, 18];
 pub const FINISH: Can = &[1, 2, 3, 4, 5, 6, 12, 13];
@@ -25,7 +26,7 @@ const NEVER: &str = "\
 const ENOUGH: u64 = 10_000;
 
 /// The numbers that a refusal can have. 15 was one, and is given to nothing.
-const NUMBERS: &[u64] = &[1, 2, 3, 4, 5, 6, 7, 8, 9, 10, 11, 12, 13, 14, 16, 17, 18];
+const NUMBERS: &[u64] = &[1, 2, 3, 4, 5, 6, 7, 8, 9, 10, 11, 12, 13, 14, 16, 17, 18, 29];
 
 struct Row {
     name: &'static str,

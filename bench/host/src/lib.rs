@@ -4,7 +4,7 @@
 use reader::{Level, Reading};
 use venticapro::calls;
 
-pub use calls::{check_rule, open, Answer, ANSWER};
+pub use calls::{check_rule, complete, open, Answer, ANSWER};
 pub use venticapro::Tables;
 
 /// The writer. Value: the count of bytes.

@@ -2,6 +2,7 @@
 use crate::lines;
 use crate::rules::rule_a;
 use host::venticapro_check_rule;
+use host::venticapro_complete;
 use host::venticapro_open;
 use host::venticapro_version;
 use host::venticapro_write_rule;
@@ -54,6 +55,14 @@ fn write_a(name: &[u8], output: &mut [u8]) {
     numbers(name, &answer);
 }
 
+// Rule A completed into an output: an empty one asks for the size here too.
+fn complete_a(name: &[u8], output: &mut [u8]) {
+    let file = rule_a();
+    let mut answer = [7u64; 16];
+    venticapro_complete(&file, output, &mut answer);
+    numbers(name, &answer);
+}
+
 fn open_a(name: &[u8], book: &mut [u64]) {
     let file = rule_a();
     let mut answer = [7u64; 16];
@@ -69,6 +78,8 @@ pub fn cases() {
     let mut output = [7u8; 64];
     write_a(b"the size of rule A", &mut []);
     write_a(b"rule A written for a host", &mut output);
+    complete_a(b"the size of rule A completed", &mut []);
+    complete_a(b"rule A completed for a host", &mut output);
     let mut book = [7u64; 65];
     let mut short = [7u64; 3];
     open_a(b"rule A opened for a host", &mut book);

@@ -13,6 +13,7 @@ use Rattle.meaning.specs.FullReading.{Event, opens, closes, letter, eventOf, Tu
 use Rattle.meaning.specs.SkipBook.{bookCheck, makeBook}
 use Rattle.meaning.specs.Skipping.{settledTurn, endsLevel, skipTurn, skipEvent}
 use Rattle.meaning.specs.Calls.{Stored, openCall, storeStep, readingCheck, fedFrom, feedCall, endOf, finishCall, finishFed, readWith, wholeFrom, wholeDocument, pathFits, pathCall}
+use Rattle.meaning.specs.Completing.{completeCheck, completeCall}
 use Rattle.meaning.specs.declared.Reading.{Reading}
 use Rattle.meaning.specs.declared.Level.{Level}
 use Rattle.meaning.specs.declared.Opening.{Opening}
@@ -91,6 +92,11 @@ write-numbered R room =
     (follows _ _ (table _ _ _)
     (follows _ _ (table _ _ _)
     (refuses _ _ _ _ (omega arith) isGiven)))))))
+
+pub complete-numbered : (file : List ℕ) (room : ℕ) → Numbered (completeCall file room)
+unfolding completeCall completeCheck
+complete-numbered file room =
+    gives _ _ (rule-numbered file) (λ R. refuses _ _ _ _ (omega arith) (refuses _ _ _ _ (omega arith) isGiven))
 
 -- ---- open
 

@@ -37,7 +37,7 @@ answerNumbers values (refused number place) = number ∷ place ∷ []
 abbrev pub ruleValues : Rule → List ℕ
 ruleValues R = R .states ∷ R .initial ∷ R .«tree_start» ∷ R .letters ∷ []
 
--- the count of bytes written, or of letters laid
+-- the count of bytes written, of letters laid, or of the old rule's nones
 abbrev pub countValue : ℕ → List ℕ
 countValue count = count ∷ []
 

@@ -1,4 +1,5 @@
 // The numbers of each answer, laid into the lent array: zeros come after them.
+use complete::Completed;
 use meaning::End;
 use meaning::Fed;
 use meaning::Feeding;
@@ -15,6 +16,7 @@ ghost use mathlib.Core.Path.{_≡_};
 ghost use mathlib.Core.List.{[], _∷_};
 ghost use Rattle.meaning.specs.Calls.{openedSays, verdictSays, endSays, tracedSays, feedingSays};
 ghost use Rattle.rule.specs.Says.{checkedSays, writtenSays};
+ghost use Rattle.complete.specs.Says.{completedSays};
 ghost use Rattle.host.specs.Numbers.{laid, answerNumbers, ruleValues, countValue, openingValues, readingValues, judgedValues, fedNumbers};
 
 // How many numbers an answer has: more than any call gives, so that none is too short.
@@ -62,6 +64,16 @@ pub fn lay_written(written: Written, answer: &mut [u64; ANSWER])
     match written {
         Written::Bytes(count) => lay_count(count as u64, answer),
         Written::Refused(refusal) => lay_refusal(refusal, answer),
+    }
+}
+
+// The answer of the tool that completes a rule.
+pub fn lay_completed(completed: Completed, answer: &mut [u64; ANSWER])
+    ensures { λ _. ⌜ now (answer .exit) ≡ laid (answerNumbers countValue (completedSays completed)) ⌝ }
+{
+    match completed {
+        Completed::Nones(count) => lay_count(count as u64, answer),
+        Completed::Refused(refusal) => lay_refusal(refusal, answer),
     }
 }
 

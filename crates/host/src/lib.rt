@@ -1,15 +1,17 @@
-// What a host in C or Rust links: the calls of rule and reading on numbers and slices. Each call lays its answer into a lent
+// What a host in C or Rust links: the calls of rule, complete and reading on numbers and slices. Each call lays its answer into a lent
 // array of 64-bit numbers: the number of the refusal or 0, its place or 0, then the values that were given, and then zeros. An array
 // cannot be too short, so that no call writes to what else it was lent and then cannot answer.
 mod answers;
 
 use answers::ANSWER;
 use answers::lay_checked;
+use answers::lay_completed;
 use answers::lay_end;
 use answers::lay_fed;
 use answers::lay_opened;
 use answers::lay_traced;
 use answers::lay_written;
+use complete::complete;
 use meaning::Level;
 use meaning::Reading;
 use reading::feed;
@@ -21,8 +23,9 @@ use rule::Rule;
 use rule::writer::write;
 ghost use mathlib.Core.Path.{_≡_};
 ghost use lib.ListN.{length};
-ghost use Rattle.meaning.specs.RuleFile.{writeCheck, outputAfter};
+ghost use Rattle.meaning.specs.RuleFile.{ruleOf, writeCheck, outputAfter};
 ghost use Rattle.meaning.specs.Calls.{openCall, openedBook, feedCall, finishCall, pathCall, pathLaid, wholeDocument};
+ghost use Rattle.meaning.specs.Completing.{completeCall, completedOutput};
 ghost use Rattle.rule.specs.Says.{checkAnswer};
 ghost use Rattle.rule.specs.Checks.{ruleFrom};
 ghost use Rattle.host.specs.Numbers.{laid, interfaceVersion, answerNumbers, ruleValues, countValue, openingValues, judgedValues, readingFrom, FeedLaid, PathLaid, DocumentLaid};
@@ -70,6 +73,15 @@ pub extern "C" fn venticapro_write_rule(
         output,
     );
     lay_written(written, answer);
+}
+
+// The tool that completes a rule: the old rule's count of nones; the completed rule's file lies in the output.
+#[no_mangle]
+pub extern "C" fn venticapro_complete(file: &[u8], output: &mut [u8], answer: &mut [u64; ANSWER])
+    ensures { λ _. ⌜ now (answer .exit) ≡ laid (answerNumbers countValue (completeCall (now (file .entry)) (length (now (output .entry))))) ⌝ }
+    ensures { λ _. ⌜ now (output .exit) ≡ completedOutput (completeCall (now (file .entry)) (length (now (output .entry)))) (ruleOf (now (file .entry))) (now (output .entry)) ⌝ }
+{
+    lay_completed(complete(file, output), answer);
 }
 
 // Open: how many states are still, and the fresh reading, its state, its four counts and the mark; the book lies in the words lent. A host

@@ -64,6 +64,9 @@ calls! {
     write_rule = venticapro_write_rule(states: u8, initial: u8, tree_start: u8, letters: u16, letter_moves: &[u8],
         tree_moves: &[u8], classes: &[u8], output: &mut [u8]);
 
+    /// Completing a rule, into the output. Value: how many nones the old rule had.
+    complete = venticapro_complete(file: &[u8], output: &mut [u8]);
+
     /// Opening, which fills the book. Values: how many states are still, and the fresh reading.
     open = venticapro_open(file: &[u8], book: &mut [u64]);
 

@@ -226,6 +226,24 @@ impl<'a> Rule<'a> {
         Ok(file)
     }
 
+    /// The rule with one new state, off-schema, in place of every [`NONE`]: with it every well-nested document of known letters
+    /// that fits has a verdict. A rule that has none comes out as it was; one that has some, and 64 states, is refused with 29.
+    pub fn complete(&self) -> Result<Completed, Refusal> {
+        let needed = self.complete_into(&mut []).or_else(Refusal::room)?;
+        let mut file = vec![0; needed];
+        let nones = self.complete_into(&mut file)?;
+        Ok(Completed { file, nones })
+    }
+
+    /// The same into an output, and answers how many nones the rule had. An output that is too short is refused with 14, and
+    /// the place is the count of bytes needed: an empty one asks for the size.
+    pub fn complete_into(&self, output: &mut [u8]) -> Result<usize, Refusal> {
+        let mut answer = [0; ANSWER];
+        calls::complete(self.file, output, &mut answer);
+        Refusal::unless_fine(&answer)?;
+        Ok(answer[2] as usize)
+    }
+
     /// Makes the rule's book.
     pub fn open(&self) -> Result<Opened<'a>, Refusal> {
         let (mut book, mut answer) = ([0; LONGEST_BOOK], [0; ANSWER]);
@@ -244,6 +262,15 @@ impl<'a> Rule<'a> {
         Refusal::unless_fine(&answer)?;
         Ok(End::in_answer(&answer))
     }
+}
+
+/// What [`Rule::complete`] makes of a rule.
+#[derive(Clone, Debug, PartialEq, Eq)]
+pub struct Completed {
+    /// The bytes of the completed rule's file.
+    pub file: Vec<u8>,
+    /// How many nones the old rule had; 0 exactly if the file is the old one.
+    pub nones: usize,
 }
 
 /// A rule with its book, by which any number of documents are read.

@@ -49,6 +49,7 @@ impl Refusal {
             16 => "event P (counted from 0) is one too many: 4,294,967,295 are taken already",
             17 => "event P (counted from 0) opens a level, and the rule has no tree start",
             18 => "event P (counted from 0) closes a level, and the rule has no tree move there",
+            29 => "the rule has gaps and already 64 states, so that none is left for the new one",
             _ => "a number that this version does not know",
         }
     }

@@ -1,7 +1,7 @@
 //! Readers by the rules of examples/: blocks, refusals, paths, threads.
 
 use venticapro::{calls, letter, Refusal, Rule, Tables, Verdict};
-use venticapro::{CLOSES, DEFAULT_CEILING, NO_CEILING, OPENS, VERSION};
+use venticapro::{CLOSES, DEFAULT_CEILING, NONE, NO_CEILING, OPENS, VERSION};
 
 fn file(name: &str) -> Vec<u8> {
     let folder = concat!(env!("CARGO_MANIFEST_DIR"), "/../../examples/rules/");
@@ -136,6 +136,44 @@ fn what_is_written_is_what_was_read() {
     assert_eq!(Rule::write(tables), Ok(bytes.clone()));
     let refusal = Rule::write(Tables { states: 65, ..tables }).unwrap_err();
     assert_eq!((refusal.number, refusal.place), (4, 6));
+}
+
+/// Rule A has two nones. Full reading of 0 3 1 3 ends where a letter move is missing: after completing, in the new state.
+#[test]
+fn a_completed_rule_has_a_verdict_where_there_was_none() {
+    let bytes = file("rule-a");
+    let rule = Rule::check(&bytes).expect("a good rule");
+    assert_eq!(rule.complete_into(&mut []), Err(Refusal { number: 14, place: 57 }));
+    let completed = rule.complete().expect("four states");
+    assert_eq!((completed.nones, completed.file.len()), (2, 57));
+    let events = [OPENS, letter(1), CLOSES, letter(1)];
+    let mut full = rule.open().expect("65 words are enough").full_reader(16);
+    assert_eq!(full.feed(&events), Err(Refusal { number: 11, place: 3 }));
+    let whole = Rule::check(&completed.file).expect("an accepted file");
+    let end = whole.read(16, &events).expect("no move is missing");
+    assert_eq!((end.verdict, end.state), (Verdict::OffSchema, 3));
+    let again = whole.complete().expect("no gap");
+    assert_eq!((again.nones, again.file), (0, completed.file.clone()));
+}
+
+#[test]
+fn sixty_four_states_leave_none_for_completing() {
+    let (moves, classes) = ([0; 64 * 64], [0; 64]);
+    let tables = Tables {
+        states: 64,
+        initial: 0,
+        tree_start: NONE,
+        letters: 1,
+        letter_moves: &moves[..64],
+        tree_moves: &moves,
+        classes: &classes,
+    };
+    let full = Rule::write(tables).expect("a rule of 64 states");
+    let refusal = Rule::check(&full).expect("a good rule").complete().unwrap_err();
+    assert_eq!((refusal.number, refusal.place), (29, 0));
+    let whole = Rule::write(Tables { tree_start: 0, ..tables }).expect("a rule of 64 states");
+    let completed = Rule::check(&whole).expect("a good rule").complete().expect("no gap");
+    assert_eq!((completed.nones, completed.file), (0, whole.clone()));
 }
 
 #[test]
