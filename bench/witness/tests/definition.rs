@@ -6,7 +6,7 @@ use generate::Prng;
 use reader::book::{reach_with, tree_ends};
 use reader::calls::Feed;
 use reader::reading::{CLOSE, FIRST_LETTER, OPEN};
-use reader::{Book, Class, Level, Outcome, Reading, Rule};
+use reader::{Book, Class, Level, Outcome, Reading, Rule, NO_LETTER};
 use std::collections::BTreeSet;
 use witness::{Runs, Witness, LONGEST_SHOWN};
 
@@ -98,7 +98,8 @@ fn is_read(rule: &Rule, p: usize, run: &Witness) {
     let file = rule.to_file();
     let ways: [Feed; 2] = [reader::hedge::feed, reader::stream::feed];
     for feed in ways {
-        let reading = Reading { state: p as u8, depth: 0, skip: 0, taken: 0, looks: 0 };
+        let (state, first) = (p as u8, NO_LETTER);
+        let reading = Reading { state, depth: 0, skip: 0, taken: 0, looks: 0, first };
         let mut store = vec![Level::default(); events.len()];
         let fed = feed(&file, &vec![0; rule.n + 1], reading, &mut store, events, u32::MAX);
         assert_eq!(fed.outcome, Outcome::AllTaken);
