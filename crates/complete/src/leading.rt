@@ -1,6 +1,7 @@
 // Where each move of the completed rule leads: where the old one did, and to the new state where there was none.
 use rule::Rule;
 use rule::tables;
+use rule::tables::HEADER;
 use rule::tables::Move;
 ghost use mathlib.Core.Path.{_≡_};
 ghost use Prim.Native.Nat.{_<_, _≤_};
@@ -34,6 +35,16 @@ pub fn start(file: &[u8], rule: Rule) -> u8
     or_new(rule.states, tables::tree_start(rule))
 }
 
+// How many states the old rule has, as the file says it. Whether a row is the new state's is asked of the file for each move: asked
+// of a number that stays, the new state's row is one byte over and over, and the compiler makes a call of memset of it, which is
+// the C library's, and no part of what a host links.
+fn states_in(file: &[u8], rule: Rule) -> u8
+    requires { ⌜ RuleOf (now file) rule ⌝ }
+    ensures { λ r. ⌜ r ≡ rule .states ⌝ }
+{
+    file[HEADER]
+}
+
 // The letter move of a state, the new one too.
 fn letter_to(file: &[u8], rule: Rule, state: u8, letter: u16) -> u8
     requires { ⌜ RuleOf (now file) rule ⌝ }
@@ -41,7 +52,7 @@ fn letter_to(file: &[u8], rule: Rule, state: u8, letter: u16) -> u8
     ensures { λ r. ⌜ r ≡ letterMoveTo (ruleOf (now (file .entry))) state letter ⌝ }
 {
     let new = rule.states;
-    if new <= state {
+    if states_in(file, rule) <= state {
         return new;
     }
     or_new(new, tables::letter_move(file, rule, state, letter))
@@ -53,7 +64,7 @@ fn tree_to(file: &[u8], rule: Rule, upper: u8, lower: u8) -> u8
     ensures { λ r. ⌜ r ≡ treeMoveTo (ruleOf (now (file .entry))) upper lower ⌝ }
 {
     let new = rule.states;
-    if new <= upper {
+    if states_in(file, rule) <= upper {
         return new;
     }
     if new <= lower {
