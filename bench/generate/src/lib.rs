@@ -3,6 +3,7 @@
 
 #![forbid(unsafe_code)]
 
+pub mod broken;
 pub mod calls;
 pub mod damage;
 pub mod events;

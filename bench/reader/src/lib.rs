@@ -21,6 +21,7 @@ pub mod calls;
 pub mod check;
 pub mod complete;
 pub mod hedge;
+pub mod mend;
 pub mod numbers;
 pub mod positions;
 pub mod reading;

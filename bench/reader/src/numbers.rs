@@ -40,6 +40,10 @@ pub const NO_TREE_START: u8 = 17;
 pub const NO_TREE_MOVE: u8 = 18;
 /// Gaps, and already 64 states; place 0.
 pub const NO_STATE_LEFT: u8 = 29;
+/// Output of mending too short; place: events needed.
+pub const MENDED_SHORT: u8 = 27;
+/// Change list too short; place: changes needed.
+pub const CHANGES_SHORT: u8 = 28;
 
 /// A number with its place.
 #[derive(Clone, Copy, Debug, PartialEq, Eq, Hash)]

@@ -7,7 +7,7 @@
 --     answers      a callee whose requirement holds `Gives` what it returned, and each holder what it has after it (`InPlace.antt`),
 --                  or any Y that this tells.        replies-one    the same at an entry of the tables, where the contract allows
 --                  one answer and one last value of each reference.        replies-with    where it allows several answers and
---                  one last value of each. The contract is asked in the form to which the triple of a function's contract
+--                  one last value of each.        replies-told    where each answer has last values of its own. The contract is asked in the form to which the triple of a function's contract
 --                  computes, so that a proof hands in the callee's theorem as it is
 use mathlib.Core.Path.{_≡_, refl, _∙_, ap, subst}
 use Prim.Native.Nat.{ℕ, _<_, _^_}
@@ -182,6 +182,13 @@ pub record Said (R : RattleType) (val : R .Denot → Val) (ψ : R .Denot → Typ
   pub says : ψ answer
   pub fits : Is R answer (val answer ∷ [])
 
+-- an answer and last values of which ψ is said
+pub record Told (R : RattleType) (val : R .Denot → Val) (L : Type 0) (ψ : R .Denot → L → Type 0) : Type 0 where
+  pub answer : R .Denot
+  pub last : L
+  pub says : ψ answer last
+  pub fits : Is R answer (val answer ∷ [])
+
 -- a requirement of two facts
 pub two-facts : {M : Type 1} (𝓤 : URA M) (φ ψ : Type 0) → φ → ψ → ent 𝓤 (emp 𝓤) (sep 𝓤 (fact 𝓤 φ) (fact 𝓤 ψ))
 two-facts 𝓤 φ ψ x y = via 𝓤 (sep 𝓤 (emp 𝓤) (emp 𝓤)) (emp∗ 𝓤 (emp 𝓤)) (mono∗ 𝓤 (factI 𝓤 φ (emp 𝓤) x) (factI 𝓤 ψ (emp 𝓤) y))
@@ -202,3 +209,11 @@ module _ {M : Type 1} {𝓤 : URA M} {H : Heap 𝓤} {A : Atoms 𝓤} (W : Given
   replies-with ψ lasts met exact =
       answers 𝓤 H A W ways R val tl φ Pre (𝓣 .C f) (Said R val ψ) (λ x. val (x .answer)) (λ _. afters 𝓤 H A ways lasts) (λ x. record { answer = x .answer; says = exact (x .answer) (x .lasts) (x .says) .0; fits = x .fits })
       (λ x. refl) (λ x. ap (afters 𝓤 H A ways) (exact (x .answer) (x .lasts) (x .says) .1)) (fmOf 𝓤 H (W .laws) 𝓣 f) required met
+
+  -- several answers, each with last values of its own, of which L is told
+  pub replies-told : (L : Type 0) (ψ : R .Denot → L → Type 0) (last : Lasts 𝓤 H A ways → L) (Δ : L → List (Item 𝓤)) → ((z : Chosen 𝓤 H A ways) → Keeps 𝓤 H A W ways R val tl φ Pre (𝓣 .C f) z)
+      → ((x : R .Denot) (ws : Lasts 𝓤 H A ways) → φ x ws → ψ x (last ws)) → ((ws : Lasts 𝓤 H A ways) → afters 𝓤 H A ways ws ≡ Δ (last ws))
+      → Gives 𝓤 H A (𝓣 .C f) (befores 𝓤 H A ways) (machines 𝓤 H A ways) (Told R val L ψ) (λ x. val (x .answer)) (λ x. Δ (x .last))
+  replies-told L ψ last Δ met tells sames =
+      answers 𝓤 H A W ways R val tl φ Pre (𝓣 .C f) (Told R val L ψ) (λ x. val (x .answer)) (λ x. Δ (x .last)) (λ x. record { answer = x .answer; last = last (x .lasts); says = tells (x .answer) (x .lasts) (x .says); fits = x .fits })
+      (λ x. refl) (λ x. sames (x .lasts)) (fmOf 𝓤 H (W .laws) 𝓣 f) required met

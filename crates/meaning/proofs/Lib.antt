@@ -7,4 +7,5 @@ pub mod stores
 pub mod demand3
 pub mod program
 pub mod completing
+pub mod mending
 pub mod Cases

@@ -13,3 +13,4 @@ pub mod LargestBook
 pub mod Cases
 pub mod CheckProgram
 pub mod Completing
+pub mod Mending

@@ -79,3 +79,24 @@ pub struct Fed {
     pub reading: Reading,
     pub ended: Feeding,
 }
+
+// One change that mending a stream made (document 02, L9): its place in the original stream, its kind, and the event that was
+// dropped or added. The kinds are 1 a close dropped, 2 an unknown letter dropped, 3 a close added.
+#[repr(C)]
+pub struct Change {
+    pub place: u64,
+    pub kind: u16,
+    pub event: u16,
+}
+
+// How many events and how many changes mending wrote.
+pub struct Written {
+    pub events: usize,
+    pub changes: usize,
+}
+
+// What mending answers: both counts, or a refusal.
+pub enum Mended {
+    Whole(Written),
+    Refused(Refusal),
+}

@@ -14,9 +14,9 @@ ghost use Rattle.turning.specs.Turns.{Counted};
 ghost use Rattle.turning.specs.PassingOver.{openings, closings, CountsOf, oneMore, joined, DepthsOf, PassedIn, Ahead, passedOn, PassesOver};
 
 // How many events are looked at together, and how many are looked at one by one before that: a short part is over by then.
-const BLOCK: usize = 256;
+pub const BLOCK: usize = 256;
 
-const FIRST: usize = 128;
+pub const FIRST: usize = 128;
 
 // How many events of a run open a tree, how many close one, and the largest event.
 struct Counts {
@@ -32,7 +32,7 @@ struct Depths {
 }
 
 // How many events were passed over, and the skip depth after them.
-struct Passed {
+pub struct Passed {
     pub count: usize,
     pub skip: u32,
 }
@@ -195,7 +195,7 @@ fn pass_known(known: u16, skip: u32, counts: Counts, block: &[u16]) -> Passed
 }
 
 // A whole block of known events is looked at together, and others one by one.
-fn pass_block(known: u16, skip: u32, block: &[u16]) -> Passed
+pub fn pass_block(known: u16, skip: u32, block: &[u16]) -> Passed
     requires { ⌜ skip + length (now block) ≤ mostEvents ⌝ }
     ensures { λ r. ⌜ PassedIn known skip (now (block .entry)) r ⌝ }
 {
@@ -209,7 +209,7 @@ fn pass_block(known: u16, skip: u32, block: &[u16]) -> Passed
 }
 
 // So many events further, or where the events end.
-fn ahead(from: usize, count: usize, end: usize) -> usize
+pub fn ahead(from: usize, count: usize, end: usize) -> usize
     requires { ⌜ from ≤ end ⌝ }
     ensures { λ r. ⌜ Ahead from count end r ⌝ }
 {

@@ -1,0 +1,4 @@
+pub mod Seeking
+pub mod Planning
+pub mod Writing
+pub mod Listing
