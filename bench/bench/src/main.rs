@@ -12,7 +12,7 @@ mod report;
 mod timing;
 
 use host::{Store, ANSWER};
-use reader::{stream, Fed, Level, Outcome, Reading, Rule};
+use reader::{stream, Fed, Level, Outcome, Reading, Rule, NO_LETTER};
 use report::{Call, Full, Passing, Report};
 use std::process::ExitCode;
 use timing::least;
@@ -207,7 +207,7 @@ fn single_calls() -> Vec<Call> {
         let [linked, words, marks] = &mut books;
         assert!(host::open(&file, linked, &mut answer));
         let (still, state) = (opening.still as u64, opening.reading.state as u64);
-        assert_eq!(answer, [0, 0, still, state, 0, 0, 0, 0]);
+        assert_eq!(answer, [0, 0, still, state, 0, 0, 0, 0, NO_LETTER as u64]);
         assert_eq!(plain::open_by_words(&file, words), Ok(opening));
         assert_eq!(plain::open_by_marks(&file, marks), Ok(opening));
         assert!([&*linked, words, marks].iter().all(|book| **book == expected));

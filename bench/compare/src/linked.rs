@@ -13,6 +13,7 @@ use generate::damage::damaged;
 use generate::rules::random_rule;
 use generate::{Inputs, Prng};
 use host::{Store, Tables, ANSWER};
+use reader::calls::DEFAULT_CEILING;
 use reader::check::take_apart;
 use reader::{End, Fed, Level, Opening, Outcome, Reading, Refusal, Rule};
 use std::fmt::Debug;
@@ -52,7 +53,8 @@ fn numbers<T>(answer: Result<T, Refusal>, values: impl Fn(T) -> Vec<u64>) -> Vec
 
 fn reading_values(reading: Reading) -> Vec<u64> {
     let counts = [reading.depth, reading.skip, reading.taken, reading.looks];
-    [vec![reading.state as u64], counts.map(u64::from).to_vec(), vec![reading.first as u64]].concat()
+    [vec![reading.state as u64], counts.map(u64::from).to_vec(), vec![reading.first as u64]]
+        .concat()
 }
 
 fn opening_values(opening: Opening) -> Vec<u64> {
@@ -140,7 +142,8 @@ impl Comparison<'_> {
         if answer[0] == 0 {
             let (first, events) = (reading_of(&answer), &call.events);
             answer = held;
-            host::feed(file, &book_after, u32::MAX, first, &mut lent, events, &mut answer);
+            let ceiling = DEFAULT_CEILING;
+            host::feed(file, &book_after, ceiling, first, &mut lent, events, &mut answer);
             if answer[0] == 0 {
                 let last = reading_of(&answer);
                 answer = held;

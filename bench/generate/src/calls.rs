@@ -83,7 +83,11 @@ fn random_level(rng: &mut Prng, rule: &Rule) -> Level {
 
 /// A letter of the rule, or the mark.
 fn random_first(rng: &mut Prng, k: usize) -> u16 {
-    if rng.chance(50) { NO_LETTER } else { rng.below(k) as u16 }
+    if rng.chance(50) {
+        NO_LETTER
+    } else {
+        rng.below(k) as u16
+    }
 }
 
 /// The rule's own book, one of zeros, one with bits changed, or any words at all;

@@ -131,9 +131,8 @@ fn is_reading(
 ) -> bool {
     let Reading { state, depth, skip, taken, looks, first } = reading;
     let is_state = |state: u8| (state as usize) < rule.n;
-    let is_first = |first: u16| {
-        (first as usize) < rule.k || (first == NO_LETTER && mistake != MarkRefused)
-    };
+    let is_first =
+        |first: u16| (first as usize) < rule.k || (first == NO_LETTER && mistake != MarkRefused);
     let open = if mistake == StatesPastTheDepthTested {
         store
     } else {
@@ -338,7 +337,11 @@ fn path(
     if !short || mistake == PathLaidThoughRefused {
         letters.iter_mut().zip(&way).for_each(|(letter, &first)| *letter = first);
     }
-    if short { Err(Refusal::new(14, way.len() as u64)) } else { Ok(way.len()) }
+    if short {
+        Err(Refusal::new(14, way.len() as u64))
+    } else {
+        Ok(way.len())
+    }
 }
 
 fn finish(call: &Call, reading: Reading, store: &[Level], mistake: Mistake) -> End {

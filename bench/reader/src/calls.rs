@@ -18,9 +18,8 @@ pub struct Opening {
     pub still: u32,
 }
 
-/// Opening: fills the book. In turn: rule, 6, 15 (never given, see
-/// [`numbers::ROUNDS`]). Words past n+1 stay; a refused call leaves the book
-/// untouched.
+/// Opening: fills the book. In turn: rule, 6. Words past n+1 stay; a refused call
+/// leaves the book untouched.
 pub fn open(rule_file: &[u8], book: &mut [u64]) -> Result<Opening, Refusal> {
     let rule = Rule::from_file(rule_file)?;
     if book.len() < rule.n + 1 {
@@ -70,14 +69,17 @@ pub fn path(
     Ok(way.len())
 }
 
-/// The whole-document call: opens, feeds and finishes with ceiling 4,294,967,295;
-/// it answers as those calls in turn and leaves what they leave.
+/// The ceiling of the whole-document call.
+pub const DEFAULT_CEILING: u32 = 1_000_000;
+
+/// The whole-document call: opens, feeds and finishes with its own ceiling; it
+/// answers as those calls in turn and leaves what they leave.
 pub fn whole(rule_file: &[u8], book: &mut [u64], store: &mut [Level], events: &[u16]) -> End {
     let reading = match open(rule_file, book) {
         Ok(opening) => opening.reading,
         Err(refusal) => return End::Refused(refusal),
     };
-    let fed = feed(rule_file, book, reading, store, events, u32::MAX);
+    let fed = feed(rule_file, book, reading, store, events, DEFAULT_CEILING);
     match fed.outcome {
         Outcome::Refused(refusal) => End::Refused(refusal),
         Outcome::AllTaken => finish(rule_file, book, fed.reading, store),

@@ -272,8 +272,7 @@ fn evaluate(
                     Ok(state) => state,
                     Err(refused) => return Some(refused),
                 };
-                store[depth] =
-                    Level { state: frame.state, first: NO_LETTER, place: below.opened };
+                store[depth] = Level { state: frame.state, first: NO_LETTER, place: below.opened };
                 frame.next += 1;
                 frame.evaluated = frame.next;
                 frames.push(Frame { tree: inner, next: 0, evaluated: 0, state, first: NO_LETTER });

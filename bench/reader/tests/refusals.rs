@@ -148,10 +148,8 @@ fn both_refuse(book: &[u64], reading: Reading, store: &[Level], expected: Refusa
 fn not_a_reading() {
     let book = [6, 4, 7, 7];
     let good = Reading { state: 0, depth: 1, skip: 0, taken: 5, looks: 5, first: NO_LETTER };
-    let store = [
-        Level { state: 2, first: 1, place: 4 },
-        Level { state: 200, first: NO_LETTER, place: 9 },
-    ];
+    let store =
+        [Level { state: 2, first: 1, place: 4 }, Level { state: 200, first: NO_LETTER, place: 9 }];
     let not_a_reading = Refusal::new(13, 0);
     for bad in [
         Reading { state: 3, ..good },
@@ -198,7 +196,8 @@ fn one_event(book: &[u64], reading: Reading, levels: usize, event: u16, ceiling:
 fn each_event_in_turn() {
     let refused = |number, place| Outcome::Refused(Refusal::new(number, place));
     let zeros = [0; 4];
-    let at_top = Reading { state: 2, depth: 0, skip: 0, taken: u32::MAX, looks: 0, first: NO_LETTER };
+    let at_top =
+        Reading { state: 2, depth: 0, skip: 0, taken: u32::MAX, looks: 0, first: NO_LETTER };
     // 16 before 10 and 7.
     assert_eq!(one_event(&zeros, at_top, 0, 4, 0), refused(16, u32::MAX as u64));
     assert_eq!(one_event(&zeros, at_top, 0, 1, 0), refused(16, u32::MAX as u64));

@@ -36,7 +36,7 @@ answerNumbers values (refused number place) = number ∷ place ∷ []
 abbrev pub ruleValues : Rule → List ℕ
 ruleValues R = R .states ∷ R .initial ∷ R .«tree_start» ∷ R .letters ∷ []
 
--- the count of bytes written
+-- the count of bytes written, or of letters laid
 abbrev pub countValue : ℕ → List ℕ
 countValue count = count ∷ []
 
@@ -67,11 +67,15 @@ abbrev pub readingFrom : ℕ → ℕ → ℕ → ℕ → ℕ → ℕ → Reading
 readingFrom state depth skip taken looks first =
     record { state = state; depth = depth; skip = skip; taken = taken; looks = looks; first = first }
 
--- ---- what feeding and the whole-document call say of the lent answer and of what else was lent
+-- ---- what feeding, the path and the whole-document call say of the lent answer and of what else was lent
 
 pub record FeedLaid (w : Went Stored) (before : Reading) (held : List ℕ) (fitted : Bool) (store : List Level) (held′ : List ℕ) : Type 0 where
   pub laid : Laid (wentNumbers before w) held fitted held′
   pub storeIs : store ≡ w .last .store
+
+pub record PathLaid (answer : Answer ℕ) (path held : List ℕ) (fitted : Bool) (letters held′ : List ℕ) : Type 0 where
+  pub laid : Laid (answerNumbers countValue answer) held fitted held′
+  pub lettersIs : letters ≡ path
 
 pub record DocumentLaid (w : Whole) (held : List ℕ) (fitted : Bool) (book : List ℕ) (store : List Level) (held′ : List ℕ) : Type 0 where
   pub laid : Laid (answerNumbers judgedValues (w .answer)) held fitted held′

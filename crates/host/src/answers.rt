@@ -7,13 +7,14 @@ use meaning::Judgement;
 use meaning::Opened;
 use meaning::Reading;
 use meaning::Refusal;
+use meaning::Traced;
 use meaning::Verdict;
 use rule::Checked;
 use rule::Rule;
 use rule::Written;
 ghost use mathlib.Core.Path.{_≡_};
 ghost use mathlib.Core.List.{[], _∷_};
-ghost use Rattle.meaning.specs.Calls.{openedSays, verdictSays, endSays, feedingSays};
+ghost use Rattle.meaning.specs.Calls.{openedSays, verdictSays, endSays, tracedSays, feedingSays};
 ghost use Rattle.rule.specs.Says.{checkedSays, writtenSays};
 ghost use Rattle.host.specs.Numbers.{Laid, answerNumbers, ruleValues, countValue, openingValues, readingValues, judgedValues, fedNumbers};
 
@@ -62,6 +63,16 @@ pub fn lay_written(written: Written, answer: &mut [u64]) -> bool
     match written {
         Written::Bytes(count) => lay_count(count as u64, answer),
         Written::Refused(refusal) => lay_refusal(refusal, answer),
+    }
+}
+
+// The answer of the path.
+pub fn lay_traced(traced: Traced, answer: &mut [u64]) -> bool
+    ensures { λ r. ⌜ Laid (answerNumbers countValue (tracedSays traced)) (now (answer .entry)) r (now (answer .exit)) ⌝ }
+{
+    match traced {
+        Traced::Letters(count) => lay_count(count as u64, answer),
+        Traced::Refused(refusal) => lay_refusal(refusal, answer),
     }
 }
 

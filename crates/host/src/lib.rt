@@ -8,22 +8,24 @@ use answers::lay_checked;
 use answers::lay_end;
 use answers::lay_fed;
 use answers::lay_opened;
+use answers::lay_traced;
 use answers::lay_written;
 use meaning::Level;
 use meaning::Reading;
 use reading::feed;
 use reading::finish;
 use reading::open;
+use reading::path;
 use reading::read_document;
 use rule::Rule;
 use rule::writer::write;
 ghost use mathlib.Core.Path.{_≡_};
 ghost use lib.ListN.{length};
 ghost use Rattle.meaning.specs.RuleFile.{writeCheck, outputAfter};
-ghost use Rattle.meaning.specs.Calls.{openCall, openedBook, feedCall, finishCall, wholeDocument};
+ghost use Rattle.meaning.specs.Calls.{openCall, openedBook, feedCall, finishCall, pathCall, pathLaid, wholeDocument};
 ghost use Rattle.rule.specs.Says.{checkAnswer};
 ghost use Rattle.rule.specs.Checks.{ruleFrom};
-ghost use Rattle.host.specs.Numbers.{Laid, answerNumbers, ruleValues, countValue, openingValues, judgedValues, readingFrom, FeedLaid, DocumentLaid};
+ghost use Rattle.host.specs.Numbers.{Laid, answerNumbers, ruleValues, countValue, openingValues, judgedValues, readingFrom, FeedLaid, PathLaid, DocumentLaid};
 
 // The rule check: n, the initial state, the tree start and k.
 #[no_mangle]
@@ -130,6 +132,36 @@ pub extern "C" fn venticapro_finish(
     };
     let end = finish(file, book, reading, levels);
     lay_end(end, answer)
+}
+
+// The path to where a reading stands: how many letters lie in the slice lent for them, the top's first and then that of each
+// stored level from the outermost to the innermost, 65,535 for a level that has none yet.
+#[no_mangle]
+pub extern "C" fn venticapro_path(
+    file: &[u8],
+    book: &[u64],
+    state: u8,
+    depth: u32,
+    skip: u32,
+    taken: u32,
+    looks: u32,
+    first: u16,
+    levels: &[Level],
+    letters: &mut [u16],
+    answer: &mut [u64],
+) -> bool
+    ensures { λ r. ⌜ PathLaid (pathCall (now (file .entry)) (now (book .entry)) (readingFrom state depth skip taken looks first) (now (levels .entry)) (now (letters .entry))) (pathLaid (now (file .entry)) (now (book .entry)) (readingFrom state depth skip taken looks first) (now (levels .entry)) (now (letters .entry))) (now (answer .entry)) r (now (letters .exit)) (now (answer .exit)) ⌝ }
+{
+    let reading = Reading {
+        state,
+        depth,
+        skip,
+        taken,
+        looks,
+        first,
+    };
+    let traced = path(file, book, reading, levels, &mut *letters);
+    lay_traced(traced, answer)
 }
 
 // A whole document: the class of the verdict and the end state.

@@ -61,7 +61,7 @@ feedingSays (feeding.Refused r) = refusalSays r
 -- ---- open
 
 -- One call, in the place of the maker and the fresh reading: it fills the lent book and gives the fresh reading and how many
--- states are still. Refusals: the rule check, 6, 15.
+-- states are still. Refusals: the rule check, 6.
 unfoldable pub openCall : List ℕ → List ℕ → Answer Opening
 openCall file book =
     checkRule file giving λ R.
@@ -254,6 +254,11 @@ pub record ReadsTo (file book : List ℕ) (first : Reading) (store : List Level)
 
 -- ---- the whole-document call
 
+-- its ceiling: 1,000,000 looks
+abbrev pub defaultCeiling : ℕ
+defaultCeiling = 1000000
+
+-- the largest ceiling there is, under which the check program feeds
 abbrev pub largestCeiling : ℕ
 largestCeiling = 4294967295
 
@@ -269,7 +274,7 @@ finishFed file book w = w .ended giving λ done. finishCall file book (w .last .
 
 unfoldable pub readWith : List ℕ → List ℕ → Reading → List Level → List ℕ → Whole
 readWith file book first store events =
-    let fed : Went Stored = feedCall file book largestCeiling first store events in
+    let fed : Went Stored = feedCall file book defaultCeiling first store events in
     record { answer = finishFed file book fed; book = book; store = fed .last .store }
 
 unfoldable pub wholeFrom : Answer Opening → List ℕ → List ℕ → List Level → List ℕ → Whole
@@ -277,6 +282,6 @@ wholeFrom (given o) file book store events = readWith file (bookAfter (given o) 
 wholeFrom (refused number place) file book store events =
     record { answer = refused number place; book = book; store = store }
 
--- open, feed and finish in turn, with the book that opening wrote and from the reading that it gave, under the largest ceiling
+-- open, feed and finish in turn, with the book that opening wrote and from the reading that it gave, under the call's own ceiling
 unfoldable pub wholeDocument : List ℕ → List ℕ → List Level → List ℕ → Whole
 wholeDocument file book store events = wholeFrom (openCall file book) file book store events

@@ -9,7 +9,7 @@ mod tracing;
 
 use checking::admit;
 use checking::rule_in;
-use document::LARGEST_CEILING;
+use document::DEFAULT_CEILING;
 use document::begin;
 use ending::end_checked;
 use ending::end_fed;
@@ -140,7 +140,8 @@ pub fn finish_array(file: &[u8], book: &[u64], reading: Reading, levels: [Level;
     finish(file, book, reading, &levels)
 }
 
-// A whole document: it opens, feeds and finishes, with the largest ceiling.
+// A whole document: it opens, feeds and finishes, with a ceiling of 1,000,000 looks. Whoever wants
+// another feeds and finishes himself.
 pub fn read_document(file: &[u8], book: &mut [u64], levels: &mut [Level], events: &[u16]) -> End
     ensures { λ r. ⌜ ReadIs (wholeDocument (now (file .entry)) (now (book .entry)) (now (levels .entry)) (now (events .entry))) r (now (book .exit)) (now (levels .exit)) ⌝ }
 {
@@ -149,7 +150,7 @@ pub fn read_document(file: &[u8], book: &mut [u64], levels: &mut [Level], events
         file,
         begun.rule,
         &*book,
-        LARGEST_CEILING,
+        DEFAULT_CEILING,
         begun.going,
         &mut *levels,
         events,

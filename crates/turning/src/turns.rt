@@ -20,7 +20,7 @@ ghost use Rattle.meaning.specs.Skipping as skipping;
 ghost use Rattle.meaning.specs.Skipping.{endsLevel, settledTurn, skipEvent};
 ghost use Rattle.rule.specs.Says.{RuleOf};
 ghost use Rattle.rule.specs.Tables.{tableSays};
-ghost use Rattle.turning.specs.Turns.{turnSays, lookAnswer, Counted, OneMore, StatesIn, Stands};
+ghost use Rattle.turning.specs.Turns.{turnSays, lookAnswer, levelFirst, Counted, OneMore, StatesIn, Stands};
 
 // The most events that a reading takes.
 pub const MOST_EVENTS: u32 = 4294967295;
@@ -98,6 +98,17 @@ fn first_letter(first: u16, a: u16) -> u16
     first
 }
 
+// The first letter of the level that a reading stands on, or the mark: the top's is in the reading, and any other's in its
+// record.
+fn level_first(top: Level, reading: Reading) -> u16
+    ensures { λ r. ⌜ r ≡ levelFirst top reading ⌝ }
+{
+    if reading.depth == 0 {
+        return reading.first;
+    }
+    top.first
+}
+
 // The reading with a letter on the top level.
 fn top_named(a: u16, reading: Reading) -> Reading
     ensures { λ r. ⌜ r ≡ topNamed a reading ⌝ }
@@ -116,10 +127,10 @@ fn top_named(a: u16, reading: Reading) -> Reading
 fn letter_turn(a: u16, top: Level, reading: Reading) -> Turn
     ensures { λ r. ⌜ ((before : Reading) → turnSays before r ≡ given (letterTurn a top reading)) ⌝ }
 {
-    if reading.depth == 0 {
-        return Turn::Stays(top_named(a, reading));
-    }
-    if top.first == NO_LETTER {
+    if level_first(top, reading) == NO_LETTER {
+        if reading.depth == 0 {
+            return Turn::Stays(top_named(a, reading));
+        }
         let named = Level {
             above: top.above,
             first: a,
