@@ -4,3 +4,4 @@ pub mod Events
 pub mod Blocks
 pub mod Made
 pub mod Taken
+pub mod Called

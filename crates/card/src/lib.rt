@@ -2,22 +2,35 @@
 // there is none. A card is made once and then taken in place of its block.
 mod following;
 mod moving;
-mod taking;
+mod obeying;
 
 use following::follow_block;
+use levels::level_at;
+use meaning::Level;
+use meaning::Reading;
 use meaning::Refusal;
+use obeying::take_checked;
+use reading::checking::admit;
 use rule::Checked;
 use rule::Rule;
 use rule::Written;
 use rule::check::Outcome;
 use rule::writer::copy_body;
+use turning::advancing::top_place;
 ghost use mathlib.Core.Path.{_≡_};
 ghost use mathlib.Core.List.{_++_};
 ghost use Prim.Native.Nat.{_≤_};
 ghost use lib.ListN.{length, take, drop};
-ghost use Rattle.meaning.specs.Cards.{makeCard, cardLaid};
+ghost use Rattle.meaning.specs.Cards.{makeCard, cardLaid, takeCard};
 ghost use Rattle.rule.specs.Says.{RuleOf};
 ghost use Rattle.card.specs.Making.{Unmoved, CardIs};
+ghost use Rattle.card.specs.Taking.{takingSays};
+
+// What taking a card answers: the reading after it, or a refusal, which changes nothing.
+pub enum Taking {
+    Taken(Reading),
+    Refused(Refusal),
+}
 
 // A card on which every state stands for itself.
 fn unmoved() -> [u8; 64]
@@ -77,4 +90,36 @@ pub fn make_card(file: &[u8], block: &[u16], room: &mut [u8], output: &mut [u8])
         Checked::Refused(refusal) => Written::Refused(refusal),
         Checked::Fine(rule) => make_checked(file, rule, block, room, output),
     }
+}
+
+// Take a card in place of its block: one event and one look, and on a settled level an event alone. The level store is looked at
+// and stays as it is. Any n bytes in range are obeyed as they stand.
+pub fn take_card(
+    file: &[u8],
+    book: &[u64],
+    ceiling: u32,
+    reading: Reading,
+    levels: &[Level],
+    card: &[u8],
+) -> Taking
+    ensures { λ r. ⌜ takingSays r ≡ takeCard (now (file .entry)) (now (book .entry)) ceiling reading (now (levels .entry)) (now (card .entry)) ⌝ }
+{
+    let checked = admit(file, book, reading, levels);
+    let place = top_place(reading);
+    let top = level_at(levels, place);
+    take_checked(checked, book, ceiling, reading, top, card)
+}
+
+// The same over levels of one's own, for a caller that holds them by value.
+pub fn take_card_array(
+    file: &[u8],
+    book: &[u64],
+    ceiling: u32,
+    reading: Reading,
+    levels: [Level; 1024],
+    card: &[u8],
+) -> Taking
+    ensures { λ r. ⌜ takingSays r ≡ takeCard (now (file .entry)) (now (book .entry)) ceiling reading levels (now (card .entry)) ⌝ }
+{
+    take_card(file, book, ceiling, reading, &levels, card)
 }

@@ -1,4 +1,4 @@
--- `card::taking::skip_card` meets its contract: the event limit, a settled level, and otherwise a look.
+-- `card::obeying::skip_card` meets its contract: the event limit, a settled level, and otherwise a look.
 -- Assumes nothing.
 use mathlib.Core.Path.{sym, ap, _∙_}
 use Prim.Native.Nat.{_<_}
@@ -9,8 +9,8 @@ use Rattle.meaning.specs.Cards.{skipCard}
 use Rattle.meaning.proofs.laws.Answered.{refuse-stops, refuse-passes, if-true, if-false}
 use Rattle.card.specs.Taking.{takingSays}
 use borrow.Author.Needs.{needs}
-use Rattle.card.proofs.taking.skip_card.Statement.{statement}
-use Rattle.card.proofs.taking.skip_card.Tie as tie
+use Rattle.card.proofs.obeying.skip_card.Statement.{statement}
+use Rattle.card.proofs.obeying.skip_card.Tie as tie
 
 refused-at-requires : tie.Need-refused-at-requires
 refused-at-requires c κs = search needs

@@ -1,4 +1,4 @@
--- `card::taking::card_turn` meets its contract: the ceiling, and then the byte of the card.
+-- `card::obeying::card_turn` meets its contract: the ceiling, and then the byte of the card.
 -- Assumes nothing.
 use mathlib.Core.Path.{sym, ap, _∙_}
 use Prim.Native.Nat.{_<_}
@@ -11,8 +11,8 @@ use Rattle.meaning.proofs.laws.Answered.{refuse-stops, refuse-passes}
 use Rattle.card.specs.Taking.{takingSays}
 use Rattle.card.proofs.Taken.{byte-none, byte-state}
 use borrow.Author.Needs.{needs}
-use Rattle.card.proofs.taking.card_turn.Statement.{statement}
-use Rattle.card.proofs.taking.card_turn.Tie as tie
+use Rattle.card.proofs.obeying.card_turn.Statement.{statement}
+use Rattle.card.proofs.obeying.card_turn.Tie as tie
 
 refused-at-requires : tie.Need-refused-at-requires
 refused-at-requires c κs = search needs

@@ -1,4 +1,4 @@
--- `card::taking::card_check` meets its contract: the length, and then the bytes as those of a table.
+-- `card::obeying::card_check` meets its contract: the length, and then the bytes as those of a table.
 -- Assumes nothing.
 use mathlib.Core.Path.{sym, ap, _∙_}
 use mathlib.Core.Bool.{not}
@@ -7,8 +7,8 @@ use Rattle.meaning.specs.Cards.{cardCheck}
 use Rattle.meaning.proofs.laws.Answered.{refuse-stops, refuse-passes, true-not-false}
 use Rattle.rule.specs.Checks.{inRange}
 use borrow.Author.Needs.{needs}
-use Rattle.card.proofs.taking.card_check.Statement.{statement}
-use Rattle.card.proofs.taking.card_check.Tie as tie
+use Rattle.card.proofs.obeying.card_check.Statement.{statement}
+use Rattle.card.proofs.obeying.card_check.Tie as tie
 
 refuse-requires : tie.Need-refuse-requires
 refuse-requires c κs = search needs
