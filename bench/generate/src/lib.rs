@@ -4,6 +4,7 @@
 #![forbid(unsafe_code)]
 
 pub mod calls;
+pub mod cards;
 pub mod damage;
 pub mod events;
 pub mod inputs;

@@ -17,6 +17,7 @@
 
 pub mod book;
 pub mod calls;
+pub mod card;
 pub mod check;
 pub mod hedge;
 pub mod numbers;
@@ -28,6 +29,7 @@ pub mod writer;
 
 pub use book::Book;
 pub use calls::{finish, open, path, whole, Opening};
+pub use card::{joined_cards, make_card, take_card, tree_card};
 pub use check::check_program;
 pub use hedge::feed;
 pub use numbers::Refusal;

@@ -38,6 +38,13 @@ pub const EVENTS_USED_UP: u8 = 16;
 pub const NO_TREE_START: u8 = 17;
 /// No tree move; place: the event.
 pub const NO_TREE_MOVE: u8 = 18;
+/// A card's block is not well nested or has an unknown letter; place: its first bad
+/// event, or its end if it is left open.
+pub const NOT_A_BLOCK: u8 = 25;
+/// Room for a block's open levels used up; place: the open.
+pub const ROOM_USED_UP: u8 = 26;
+/// A card that is taken has 255 for the state; place: the event.
+pub const NO_MOVE_ON_THE_CARD: u8 = 31;
 
 /// A number with its place.
 #[derive(Clone, Copy, Debug, PartialEq, Eq, Hash)]
