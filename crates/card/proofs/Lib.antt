@@ -5,3 +5,4 @@ pub mod Blocks
 pub mod Made
 pub mod Taken
 pub mod Called
+pub mod OneOutcome
