@@ -69,8 +69,8 @@ fn feed_linked(
     events: &[u16],
 ) -> Fed {
     let mut answer = [0; ANSWER];
-    assert!(host::feed(file, book, LARGEST, first, store, events, &mut answer));
-    let [number, place, took, state, depth, skip, taken, looks, first] = answer;
+    host::feed(file, book, LARGEST, first, store, events, &mut answer);
+    let [number, place, took, state, depth, skip, taken, looks, first, ..] = answer;
     let counts = [depth, skip, taken, looks].map(|count| count as u32);
     let [depth, skip, taken, looks] = counts;
     let outcome = match number {
@@ -205,9 +205,9 @@ fn single_calls() -> Vec<Call> {
         let mut books = [(); 3].map(|()| vec![0; 65]);
         let mut answer = [0; ANSWER];
         let [linked, words, marks] = &mut books;
-        assert!(host::open(&file, linked, &mut answer));
+        host::open(&file, linked, &mut answer);
         let (still, state) = (opening.still as u64, opening.reading.state as u64);
-        assert_eq!(answer, [0, 0, still, state, 0, 0, 0, 0, NO_LETTER as u64]);
+        assert_eq!(answer[..9], [0, 0, still, state, 0, 0, 0, 0, NO_LETTER as u64]);
         assert_eq!(plain::open_by_words(&file, words), Ok(opening));
         assert_eq!(plain::open_by_marks(&file, marks), Ok(opening));
         assert!([&*linked, words, marks].iter().all(|book| **book == expected));
@@ -236,7 +236,7 @@ fn single_calls() -> Vec<Call> {
     let file = inputs::mixing(64, 256).to_file();
     assert_eq!(file.len(), Rule::LONGEST_FILE);
     let mut answer = [0; ANSWER];
-    assert!(host::check_rule(&file, &mut answer));
+    host::check_rule(&file, &mut answer);
     assert_eq!(answer[..6], [0, 0, 64, 0, 1, 256]);
     let [proved, safe, sum] = least(
         REPETITIONS,

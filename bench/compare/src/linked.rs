@@ -2,7 +2,7 @@
 //! reading, level store and ceiling can be asked.
 //!
 //! A call is asked with the same arguments here and there, and all that it leaves
-//! must agree: whether the answer fitted, the answer's numbers, the output's bytes,
+//! must agree: the answer's numbers, the output's bytes,
 //! the book's words and the records of the level store, those past what was written
 //! too.
 
@@ -12,7 +12,7 @@ use generate::calls::{random_call, random_writing, Call, Writing};
 use generate::damage::damaged;
 use generate::rules::random_rule;
 use generate::{Inputs, Prng};
-use host::{Store, Tables, ANSWER};
+use host::{Answer, Store, Tables, ANSWER};
 use reader::calls::DEFAULT_CEILING;
 use reader::check::take_apart;
 use reader::{End, Fed, Level, Opening, Outcome, Reading, Refusal, Rule};
@@ -22,8 +22,7 @@ use std::time::Instant;
 /// What a call leaves.
 #[derive(Debug, Default, PartialEq)]
 struct Left {
-    fitted: bool,
-    answer: Vec<u64>,
+    answer: Answer,
     output: Vec<u8>,
     book: Vec<u64>,
     store: Vec<Level>,
@@ -31,15 +30,11 @@ struct Left {
 }
 
 impl Left {
-    /// An answer's numbers in front of what the slice held; a slice that is too
-    /// short for them stays.
-    fn by(numbers: Vec<u64>, held: &[u64]) -> Left {
-        let fitted = numbers.len() <= held.len();
-        let mut answer = held.to_vec();
-        if fitted {
-            answer[..numbers.len()].copy_from_slice(&numbers);
-        }
-        Left { fitted, answer, ..Left::default() }
+    /// An answer's numbers, and zeros after them.
+    fn by(numbers: Vec<u64>) -> Left {
+        let mut answer = [0; ANSWER];
+        answer[..numbers.len()].copy_from_slice(&numbers);
+        Left { answer, ..Left::default() }
     }
 }
 
@@ -103,29 +98,29 @@ impl Comparison<'_> {
             );
             return Err(format!("arguments {} of seed {}: {name}; {saved}", self.index, self.seed));
         }
-        self.tally.add(name, can, expected.fitted.then(|| expected.answer[0]));
+        self.tally.add(name, can, expected.answer[0]);
         Ok(())
     }
 
-    fn check_rule(&mut self, file: &[u8], held: &[u64]) -> Result<(), String> {
+    fn check_rule(&mut self, file: &[u8], held: &Answer) -> Result<(), String> {
         let values = |rule: Rule| {
             let tree_start = rule.tree_start.map_or(Rule::NONE as u64, |state| state as u64);
             vec![rule.n as u64, rule.initial as u64, tree_start, rule.k as u64]
         };
-        let expected = Left::by(numbers(Rule::from_file(file), values), held);
-        let mut answer = held.to_vec();
-        let fitted = host::check_rule(file, &mut answer);
-        let found = Left { fitted, answer, ..Left::default() };
+        let expected = Left::by(numbers(Rule::from_file(file), values));
+        let mut answer = *held;
+        host::check_rule(file, &mut answer);
+        let found = Left { answer, ..Left::default() };
         self.same("rule check", RULE, &(file, held), expected, found)
     }
 
-    fn open(&mut self, file: &[u8], book: &[u64], held: &[u64]) -> Result<(), String> {
+    fn open(&mut self, file: &[u8], book: &[u64], held: &Answer) -> Result<(), String> {
         let mut words = book.to_vec();
         let opened = reader::open(file, &mut words);
-        let expected = Left { book: words, ..Left::by(numbers(opened, opening_values), held) };
-        let (mut book_after, mut answer) = (book.to_vec(), held.to_vec());
-        let fitted = host::open(file, &mut book_after, &mut answer);
-        let found = Left { fitted, answer, book: book_after, ..Left::default() };
+        let expected = Left { book: words, ..Left::by(numbers(opened, opening_values)) };
+        let (mut book_after, mut answer) = (book.to_vec(), *held);
+        host::open(file, &mut book_after, &mut answer);
+        let found = Left { answer, book: book_after, ..Left::default() };
         self.same("open", OPEN, &(file, book, held), expected, found)
     }
 
@@ -135,7 +130,7 @@ impl Comparison<'_> {
         let (file, held) = (&call.rule_file, [0; ANSWER]);
         let (mut words, mut store) = (book.to_vec(), call.store.clone());
         let end = reader::whole(file, &mut words, &mut store, &call.events);
-        let expected = Left { book: words, store, ..Left::by(end_numbers(end), &held) };
+        let expected = Left { book: words, store, ..Left::by(end_numbers(end)) };
 
         let (mut book_after, mut lent, mut answer) = (book.to_vec(), Store::new(&call.store), held);
         host::open(file, &mut book_after, &mut answer);
@@ -154,13 +149,17 @@ impl Comparison<'_> {
         if answer[0] != 0 {
             answer[2..].fill(0);
         }
-        let answer = answer.to_vec();
         let store = lent.levels();
-        let found = Left { fitted: true, answer, book: book_after, store, ..Left::default() };
+        let found = Left { answer, book: book_after, store, ..Left::default() };
         self.same("open, feed, finish", WHOLE, &(call, book), expected, found)
     }
 
-    fn write_rule(&mut self, writing: &Writing, output: &[u8], held: &[u64]) -> Result<(), String> {
+    fn write_rule(
+        &mut self,
+        writing: &Writing,
+        output: &[u8],
+        held: &Answer,
+    ) -> Result<(), String> {
         let mut bytes = output.to_vec();
         let written = reader::write_rule(
             writing.n,
@@ -173,19 +172,19 @@ impl Comparison<'_> {
             &mut bytes,
         );
         let expected =
-            Left { output: bytes, ..Left::by(numbers(written, |count| vec![count as u64]), held) };
+            Left { output: bytes, ..Left::by(numbers(written, |count| vec![count as u64])) };
         let tables = Tables {
-            n: writing.n,
+            states: writing.n,
             initial: writing.initial,
             tree_start: writing.tree_start,
-            k: writing.k,
+            letters: writing.k,
             letter_moves: &writing.letter_moves,
             tree_moves: &writing.tree_moves,
             classes: &writing.classes,
         };
-        let (mut output_after, mut answer) = (output.to_vec(), held.to_vec());
-        let fitted = host::write_rule(tables, &mut output_after, &mut answer);
-        let found = Left { fitted, answer, output: output_after, ..Left::default() };
+        let (mut output_after, mut answer) = (output.to_vec(), *held);
+        host::write_rule(tables, &mut output_after, &mut answer);
+        let found = Left { answer, output: output_after, ..Left::default() };
         self.same("writer", WRITER, &(writing, output, held), expected, found)
     }
 
@@ -196,23 +195,23 @@ impl Comparison<'_> {
         reading: Reading,
         store: &[Level],
         lent: &[u16],
-        held: &[u64],
+        held: &Answer,
     ) -> Result<(), String> {
         let (file, book) = (&call.rule_file, &call.book);
         let mut letters = lent.to_vec();
         let traced = reader::path(file, book, reading, store, &mut letters);
-        let by = Left::by(numbers(traced, |count| vec![count as u64]), held);
+        let by = Left::by(numbers(traced, |count| vec![count as u64]));
         let expected = Left { store: store.to_vec(), letters, ..by };
-        let (levels, mut letters, mut answer) = (Store::new(store), lent.to_vec(), held.to_vec());
-        let fitted = host::path(file, book, reading, &levels, &mut letters, &mut answer);
-        let found = Left { fitted, answer, store: levels.levels(), letters, ..Left::default() };
+        let (levels, mut letters, mut answer) = (Store::new(store), lent.to_vec(), *held);
+        host::path(file, book, reading, &levels, &mut letters, &mut answer);
+        let found = Left { answer, store: levels.levels(), letters, ..Left::default() };
         self.same("path", PATH, &(file, book, reading, store, lent, held), expected, found)
     }
 
     /// Feeding, finishing what it was given and what it left, and the path to either.
-    fn feed_and_finish(&mut self, call: &Call, lent: &[u16], held: &[u64]) -> Result<(), String> {
+    fn feed_and_finish(&mut self, call: &Call, lent: &[u16], held: &Answer) -> Result<(), String> {
         let (fed, store) = feed_second(call);
-        let expected = Left { store: store.clone(), ..Left::by(fed_numbers(fed), held) };
+        let expected = Left { store: store.clone(), ..Left::by(fed_numbers(fed)) };
         let found = feed_linked(call, call.reading, &call.store, &call.events, held);
         self.same("feed", FEED, &(call, held), expected, found)?;
         self.finish(call, call.reading, &call.store, held)?;
@@ -226,14 +225,14 @@ impl Comparison<'_> {
         call: &Call,
         reading: Reading,
         store: &[Level],
-        held: &[u64],
+        held: &Answer,
     ) -> Result<(), String> {
         let (file, book) = (&call.rule_file, &call.book);
         let end = reader::finish(file, book, reading, store);
-        let expected = Left { store: store.to_vec(), ..Left::by(end_numbers(end), held) };
-        let (lent, mut answer) = (Store::new(store), held.to_vec());
-        let fitted = host::finish(file, book, reading, &lent, &mut answer);
-        let found = Left { fitted, answer, store: lent.levels(), ..Left::default() };
+        let expected = Left { store: store.to_vec(), ..Left::by(end_numbers(end)) };
+        let (lent, mut answer) = (Store::new(store), *held);
+        host::finish(file, book, reading, &lent, &mut answer);
+        let found = Left { answer, store: lent.levels(), ..Left::default() };
         self.same("finish", FINISH, &(file, book, reading, store, held), expected, found)
     }
 
@@ -242,7 +241,7 @@ impl Comparison<'_> {
     fn split_feeds(&mut self, call: &Call, parts: &[&[u16]]) -> Result<(), String> {
         let held = [0; ANSWER];
         let (fed, store) = feed_second(call);
-        let expected = Left { store, ..Left::by(fed_numbers(fed), &held) };
+        let expected = Left { store, ..Left::by(fed_numbers(fed)) };
 
         let mut found = feed_linked(call, call.reading, &call.store, parts[0], &held);
         for part in &parts[1..] {
@@ -257,16 +256,15 @@ impl Comparison<'_> {
         self.same("split feeds", FEED, &(call, lengths), expected, found)
     }
 
-    fn read_document(&mut self, call: &Call, book: &[u64], held: &[u64]) -> Result<(), String> {
+    fn read_document(&mut self, call: &Call, book: &[u64], held: &Answer) -> Result<(), String> {
         let (file, events) = (&call.rule_file, &call.events);
         let (mut words, mut store) = (book.to_vec(), call.store.clone());
         let end = reader::whole(file, &mut words, &mut store, events);
-        let expected = Left { book: words, store, ..Left::by(end_numbers(end), held) };
+        let expected = Left { book: words, store, ..Left::by(end_numbers(end)) };
         let (mut book_after, mut lent) = (book.to_vec(), Store::new(&call.store));
-        let mut answer = held.to_vec();
-        let fitted = host::read_document(file, &mut book_after, &mut lent, events, &mut answer);
-        let found =
-            Left { fitted, answer, book: book_after, store: lent.levels(), ..Left::default() };
+        let mut answer = *held;
+        host::read_document(file, &mut book_after, &mut lent, events, &mut answer);
+        let found = Left { answer, book: book_after, store: lent.levels(), ..Left::default() };
         self.same("whole document", WHOLE, &(call, book, held), expected, found)
     }
 
@@ -334,19 +332,11 @@ fn feed_linked(
     reading: Reading,
     store: &[Level],
     events: &[u16],
-    held: &[u64],
+    held: &Answer,
 ) -> Left {
-    let (mut lent, mut answer) = (Store::new(store), held.to_vec());
-    let fitted = host::feed(
-        &call.rule_file,
-        &call.book,
-        call.ceiling,
-        reading,
-        &mut lent,
-        events,
-        &mut answer,
-    );
-    Left { fitted, answer, store: lent.levels(), ..Left::default() }
+    let (mut lent, mut answer) = (Store::new(store), *held);
+    host::feed(&call.rule_file, &call.book, call.ceiling, reading, &mut lent, events, &mut answer);
+    Left { answer, store: lent.levels(), ..Left::default() }
 }
 
 /// The reading in the answer of opening or of a feed: both have a count before it.
@@ -377,10 +367,9 @@ fn random_parts<'a>(rng: &mut Prng, events: &'a [u16]) -> Vec<&'a [u16]> {
     parts
 }
 
-/// What a lent answer holds before a call; too short at times.
-fn random_held(rng: &mut Prng) -> Vec<u64> {
-    let length = if rng.chance(90) { rng.between(ANSWER, 11) } else { rng.below(ANSWER) };
-    random_words(rng, length)
+/// What a lent answer holds before a call.
+fn random_held(rng: &mut Prng) -> Answer {
+    std::array::from_fn(|_| rng.word())
 }
 
 /// What a slice lent for letters holds before a call; too short at times.

@@ -65,7 +65,7 @@ fn add(line: &str, tally: &mut Tally) {
         "refused" => words[2].parse().expect("a line has its number"),
         _ => 0,
     };
-    tally.add(name, can, Some(number));
+    tally.add(name, can, number);
 }
 
 /// Where an input is cut into the pieces it comes in.

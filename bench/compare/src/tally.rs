@@ -32,8 +32,6 @@ struct Row {
     can: Can,
     /// How often each number was given, 0 for none.
     given: BTreeMap<u64, u64>,
-    /// Answers that did not fit into the slice lent for them.
-    unfit: u64,
 }
 
 #[derive(Default)]
@@ -42,18 +40,14 @@ pub struct Tally {
 }
 
 impl Tally {
-    /// An answer on which both sides agree: its number, 0 for none, or nothing if
-    /// it did not fit.
-    pub fn add(&mut self, name: &'static str, can: Can, number: Option<u64>) {
+    /// An answer on which both sides agree: its number, 0 for none.
+    pub fn add(&mut self, name: &'static str, can: Can, number: u64) {
         let known = self.rows.iter().position(|row| row.name == name);
         let at = known.unwrap_or_else(|| {
-            self.rows.push(Row { name, can, given: BTreeMap::new(), unfit: 0 });
+            self.rows.push(Row { name, can, given: BTreeMap::new() });
             self.rows.len() - 1
         });
-        match number {
-            Some(number) => *self.rows[at].given.entry(number).or_default() += 1,
-            None => self.rows[at].unfit += 1,
-        }
+        *self.rows[at].given.entry(number).or_default() += 1;
     }
 
     pub fn agreements(&self) -> u64 {
@@ -62,11 +56,11 @@ impl Tally {
 
     /// The answers by call and number; `-` where a call never gives the number.
     pub fn print(&self) {
-        print!("{:20}{:>9}{:>9}{:>9}", "answers", "all", "no room", "given");
+        print!("{:20}{:>9}{:>9}", "answers", "all", "given");
         NUMBERS.iter().for_each(|number| print!("{number:>7}"));
         println!();
         for row in &self.rows {
-            print!("{:20}{:>9}{:>9}{:>9}", row.name, row.answers(), row.unfit, row.times(0));
+            print!("{:20}{:>9}{:>9}", row.name, row.answers(), row.times(0));
             for &number in NUMBERS {
                 match (row.times(number), row.can.contains(&number)) {
                     (0, false) => print!("{:>7}", "-"),
@@ -103,6 +97,6 @@ impl Row {
     }
 
     fn answers(&self) -> u64 {
-        self.given.values().sum::<u64>() + self.unfit
+        self.given.values().sum()
     }
 }

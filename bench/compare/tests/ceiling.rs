@@ -13,7 +13,7 @@ fn whole(events: &[u16]) -> End {
     let mut words = [0; 4];
     let end = reader::whole(&file, &mut words, &mut levels, events);
     let (mut book, mut store, mut answer) = ([0; 4], Store::new(&levels), [0; ANSWER]);
-    assert!(host::read_document(&file, &mut book, &mut store, events, &mut answer));
+    host::read_document(&file, &mut book, &mut store, events, &mut answer);
     match end {
         End::Verdict(class, state) => assert_eq!(answer[..4], [0, 0, class as u64, state as u64]),
         End::Refused(Refusal { number, place }) => {

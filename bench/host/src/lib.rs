@@ -1,117 +1,93 @@
-//! The proved calls, linked from `target/staticlib/libhost.a`, as safe functions.
-//!
-//! Each call lays its answer into a lent slice of numbers: the number of the
-//! refusal or 0, its place or 0, and then the values that were given. It returns
-//! whether they fitted; into a slice that is too short nothing is laid.
-//!
-//! To the calls a slice is a pointer and a length, one after the other. Nothing is
-//! asked of a caller but that the slices are slices and those written to are apart
-//! from the others, which Rust's references say.
+//! The proved calls as the second reading's types have them: `hosts/rust` links them, and has all unsafe code.
 
-mod store;
+use reader::{Level, Reading};
+use venticapro::calls;
 
-pub use store::{feed, finish, path, read_document, Store};
-
-/// Room enough for the answer of every call.
-pub const ANSWER: usize = 9;
-
-/// The numbers and tables that the writer is given.
-#[derive(Clone, Copy, Debug)]
-pub struct Tables<'a> {
-    pub n: u8,
-    pub initial: u8,
-    pub tree_start: u8,
-    pub k: u16,
-    pub letter_moves: &'a [u8],
-    pub tree_moves: &'a [u8],
-    pub classes: &'a [u8],
-}
-
-mod exported {
-    unsafe extern "C" {
-        pub fn venticapro_check_rule(
-            file: *const u8,
-            file_length: usize,
-            answer: *mut u64,
-            answer_length: usize,
-        ) -> bool;
-
-        pub fn venticapro_write_rule(
-            states: u8,
-            initial: u8,
-            tree_start: u8,
-            letters: u16,
-            letter_moves: *const u8,
-            letter_moves_length: usize,
-            tree_moves: *const u8,
-            tree_moves_length: usize,
-            classes: *const u8,
-            classes_length: usize,
-            output: *mut u8,
-            output_length: usize,
-            answer: *mut u64,
-            answer_length: usize,
-        ) -> bool;
-
-        pub fn venticapro_open(
-            file: *const u8,
-            file_length: usize,
-            book: *mut u64,
-            book_length: usize,
-            answer: *mut u64,
-            answer_length: usize,
-        ) -> bool;
-    }
-}
-
-/// The rule check. Values: n, initial state, tree start, k.
-pub fn check_rule(file: &[u8], answer: &mut [u64]) -> bool {
-    // SAFETY: see the head of this file.
-    unsafe {
-        exported::venticapro_check_rule(
-            file.as_ptr(),
-            file.len(),
-            answer.as_mut_ptr(),
-            answer.len(),
-        )
-    }
-}
+pub use calls::{check_rule, open, Answer, ANSWER};
+pub use venticapro::Tables;
 
 /// The writer. Value: the count of bytes.
-pub fn write_rule(tables: Tables, output: &mut [u8], answer: &mut [u64]) -> bool {
-    // SAFETY: see the head of this file.
-    unsafe {
-        exported::venticapro_write_rule(
-            tables.n,
-            tables.initial,
-            tables.tree_start,
-            tables.k,
-            tables.letter_moves.as_ptr(),
-            tables.letter_moves.len(),
-            tables.tree_moves.as_ptr(),
-            tables.tree_moves.len(),
-            tables.classes.as_ptr(),
-            tables.classes.len(),
-            output.as_mut_ptr(),
-            output.len(),
-            answer.as_mut_ptr(),
-            answer.len(),
-        )
+pub fn write_rule(tables: Tables, output: &mut [u8], answer: &mut Answer) {
+    let Tables { states, initial, tree_start, letters, letter_moves, tree_moves, classes } = tables;
+    calls::write_rule(
+        states,
+        initial,
+        tree_start,
+        letters,
+        letter_moves,
+        tree_moves,
+        classes,
+        output,
+        answer,
+    )
+}
+
+/// A level store as the calls are lent it.
+#[derive(Clone, Debug)]
+pub struct Store {
+    records: Vec<venticapro::Level>,
+}
+
+impl Store {
+    pub fn new(levels: &[Level]) -> Store {
+        let record = |level: &Level| {
+            let Level { state, first, place } = *level;
+            venticapro::Level { above: state, first, opened: place }
+        };
+        Store { records: levels.iter().map(record).collect() }
+    }
+
+    pub fn levels(&self) -> Vec<Level> {
+        let level = |record: &venticapro::Level| {
+            let venticapro::Level { above, first, opened } = *record;
+            Level { state: above, first, place: opened }
+        };
+        self.records.iter().map(level).collect()
     }
 }
 
-/// Opening, which fills the book. Values: how many states are still, then the fresh
-/// reading: state, stored depth, skip depth, events taken, looks.
-pub fn open(file: &[u8], book: &mut [u64], answer: &mut [u64]) -> bool {
-    // SAFETY: see the head of this file.
-    unsafe {
-        exported::venticapro_open(
-            file.as_ptr(),
-            file.len(),
-            book.as_mut_ptr(),
-            book.len(),
-            answer.as_mut_ptr(),
-            answer.len(),
-        )
-    }
+fn handed_over(reading: Reading) -> venticapro::Reading {
+    let Reading { state, depth, skip, taken, looks, first } = reading;
+    venticapro::Reading { state, depth, skip, taken, looks, first }
+}
+
+/// Feeding. Values: how many events it took, and the reading after them.
+pub fn feed(
+    file: &[u8],
+    book: &[u64],
+    ceiling: u32,
+    reading: Reading,
+    store: &mut Store,
+    events: &[u16],
+    answer: &mut Answer,
+) {
+    calls::feed(file, book, ceiling, handed_over(reading), &mut store.records, events, answer)
+}
+
+/// The end of a reading. Values: the class of the verdict, the end state.
+pub fn finish(file: &[u8], book: &[u64], reading: Reading, store: &Store, answer: &mut Answer) {
+    calls::finish(file, book, handed_over(reading), &store.records, answer)
+}
+
+/// The path to where a reading stands, into `letters`. Value: how many they are.
+pub fn path(
+    file: &[u8],
+    book: &[u64],
+    reading: Reading,
+    store: &Store,
+    letters: &mut [u16],
+    answer: &mut Answer,
+) {
+    calls::path(file, book, handed_over(reading), &store.records, letters, answer)
+}
+
+/// A whole document. Values: the class of the verdict, the end state.
+pub fn read_document(
+    file: &[u8],
+    book: &mut [u64],
+    store: &mut Store,
+    events: &[u16],
+    answer: &mut Answer,
+) {
+    calls::read_document(file, book, &mut store.records, events, answer)
 }

@@ -2,6 +2,7 @@
 // The expected lines stand in the file stdout.
 mod documents;
 mod ends;
+mod exported;
 mod files;
 mod largest;
 mod letters;
@@ -24,4 +25,5 @@ fn main() {
     missing::moves();
     letters::cases();
     readings::refusals();
+    exported::cases();
 }

@@ -1,11 +1,10 @@
--- What the exported calls lay into the lent answer: the number of the refusal or 0, its place or 0, and then the values that
--- were given. They go in front of what the answer held; an answer that is too short for them stays as it was.
-use Prim.Native.Nat.{ℕ}
+-- What the exported calls lay into the lent answer: the number of the refusal or 0, its place or 0, then the values that were
+-- given, and then zeros.
+use Prim.Native.Nat.{ℕ, _-_}
 use mathlib.Core.Path.{_≡_}
-use mathlib.Core.Bool.{Bool}
 use mathlib.Core.List.{List, [], _∷_, _++_}
-use lib.ListN.{length, drop}
-use Rattle.meaning.specs.Answers.{Answer, given, refused, _≤?_, if_then_else_}
+use lib.ListN.{length, replicate}
+use Rattle.meaning.specs.Answers.{Answer, given, refused}
 use Rattle.meaning.specs.FullReading.{Went}
 use Rattle.meaning.specs.Calls.{Judged, Stored, eventsTaken, Whole}
 use Rattle.meaning.specs.declared.Level.{Level}
@@ -13,18 +12,20 @@ use Rattle.meaning.specs.declared.Opening.{Opening}
 use Rattle.meaning.specs.declared.Reading.{Reading}
 use Rattle.rule.specs.declared.Rule.{Rule}
 
--- ---- numbers in front of what a slice held
+-- ---- the version of the exported calls
 
-unfoldable pub fits : List ℕ → List ℕ → Bool
-fits numbers held = length numbers ≤? length held
+abbrev pub interfaceVersion : ℕ
+interfaceVersion = 1
 
-unfoldable pub inFront : List ℕ → List ℕ → List ℕ
-inFront numbers held = if fits numbers held then numbers ++ drop (length numbers) held else held
+-- ---- a whole answer
 
--- what a call says of the lent answer: whether the numbers fitted, and what it then holds
-pub record Laid (numbers held : List ℕ) (fitted : Bool) (held′ : List ℕ) : Type 0 where
-  pub fittedIs : fitted ≡ fits numbers held
-  pub heldIs : held′ ≡ inFront numbers held
+-- how many numbers it has
+abbrev pub answerLength : ℕ
+answerLength = 16
+
+-- the numbers that a call gives, and zeros after them
+abbrev pub laid : List ℕ → List ℕ
+laid numbers = numbers ++ replicate (answerLength - length numbers) 0
 
 -- ---- the numbers of an answer
 
@@ -69,15 +70,15 @@ readingFrom state depth skip taken looks first =
 
 -- ---- what feeding, the path and the whole-document call say of the lent answer and of what else was lent
 
-pub record FeedLaid (w : Went Stored) (before : Reading) (held : List ℕ) (fitted : Bool) (store : List Level) (held′ : List ℕ) : Type 0 where
-  pub laid : Laid (wentNumbers before w) held fitted held′
+pub record FeedLaid (w : Went Stored) (before : Reading) (store : List Level) (answer : List ℕ) : Type 0 where
+  pub answerIs : answer ≡ laid (wentNumbers before w)
   pub storeIs : store ≡ w .last .store
 
-pub record PathLaid (answer : Answer ℕ) (path held : List ℕ) (fitted : Bool) (letters held′ : List ℕ) : Type 0 where
-  pub laid : Laid (answerNumbers countValue answer) held fitted held′
+pub record PathLaid (says : Answer ℕ) (path letters answer : List ℕ) : Type 0 where
+  pub answerIs : answer ≡ laid (answerNumbers countValue says)
   pub lettersIs : letters ≡ path
 
-pub record DocumentLaid (w : Whole) (held : List ℕ) (fitted : Bool) (book : List ℕ) (store : List Level) (held′ : List ℕ) : Type 0 where
-  pub laid : Laid (answerNumbers judgedValues (w .answer)) held fitted held′
+pub record DocumentLaid (w : Whole) (book : List ℕ) (store : List Level) (answer : List ℕ) : Type 0 where
+  pub answerIs : answer ≡ laid (answerNumbers judgedValues (w .answer))
   pub bookIs : book ≡ w .book
   pub storeIs : store ≡ w .store

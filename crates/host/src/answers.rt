@@ -1,5 +1,4 @@
-// The numbers of each answer, laid into the lent slice.
-use crate::lay::lay;
+// The numbers of each answer, laid into the lent array: zeros come after them.
 use meaning::End;
 use meaning::Fed;
 use meaning::Feeding;
@@ -16,32 +15,32 @@ ghost use mathlib.Core.Path.{_≡_};
 ghost use mathlib.Core.List.{[], _∷_};
 ghost use Rattle.meaning.specs.Calls.{openedSays, verdictSays, endSays, tracedSays, feedingSays};
 ghost use Rattle.rule.specs.Says.{checkedSays, writtenSays};
-ghost use Rattle.host.specs.Numbers.{Laid, answerNumbers, ruleValues, countValue, openingValues, readingValues, judgedValues, fedNumbers};
+ghost use Rattle.host.specs.Numbers.{laid, answerNumbers, ruleValues, countValue, openingValues, readingValues, judgedValues, fedNumbers};
 
-fn lay_refusal(refusal: Refusal, answer: &mut [u64]) -> bool
-    ensures { λ r. ⌜ Laid (refusal .number ∷ refusal .place ∷ []) (now (answer .entry)) r (now (answer .exit)) ⌝ }
+// How many numbers an answer has: more than any call gives, so that none is too short.
+pub const ANSWER: usize = 16;
+
+fn lay_refusal(refusal: Refusal, answer: &mut [u64; ANSWER])
+    ensures { λ _. ⌜ now (answer .exit) ≡ laid (refusal .number ∷ refusal .place ∷ []) ⌝ }
 {
-    let numbers: [u64; 2] = [refusal.number as u64, refusal.place as u64];
-    lay(&numbers, answer)
+    *answer = [0; ANSWER];
+    answer[0] = refusal.number as u64;
+    answer[1] = refusal.place as u64;
 }
 
-fn lay_rule(rule: Rule, answer: &mut [u64]) -> bool
-    ensures { λ r. ⌜ Laid (0 ∷ 0 ∷ ruleValues rule) (now (answer .entry)) r (now (answer .exit)) ⌝ }
+fn lay_rule(rule: Rule, answer: &mut [u64; ANSWER])
+    ensures { λ _. ⌜ now (answer .exit) ≡ laid (0 ∷ 0 ∷ ruleValues rule) ⌝ }
 {
-    let numbers: [u64; 6] = [
-        0,
-        0,
-        rule.states as u64,
-        rule.initial as u64,
-        rule.tree_start as u64,
-        rule.letters as u64,
-    ];
-    lay(&numbers, answer)
+    *answer = [0; ANSWER];
+    answer[2] = rule.states as u64;
+    answer[3] = rule.initial as u64;
+    answer[4] = rule.tree_start as u64;
+    answer[5] = rule.letters as u64;
 }
 
 // The answer of the rule check.
-pub fn lay_checked(checked: Checked, answer: &mut [u64]) -> bool
-    ensures { λ r. ⌜ Laid (answerNumbers ruleValues (checkedSays checked)) (now (answer .entry)) r (now (answer .exit)) ⌝ }
+pub fn lay_checked(checked: Checked, answer: &mut [u64; ANSWER])
+    ensures { λ _. ⌜ now (answer .exit) ≡ laid (answerNumbers ruleValues (checkedSays checked)) ⌝ }
 {
     match checked {
         Checked::Fine(rule) => lay_rule(rule, answer),
@@ -49,16 +48,16 @@ pub fn lay_checked(checked: Checked, answer: &mut [u64]) -> bool
     }
 }
 
-fn lay_count(count: u64, answer: &mut [u64]) -> bool
-    ensures { λ r. ⌜ Laid (0 ∷ 0 ∷ countValue count) (now (answer .entry)) r (now (answer .exit)) ⌝ }
+fn lay_count(count: u64, answer: &mut [u64; ANSWER])
+    ensures { λ _. ⌜ now (answer .exit) ≡ laid (0 ∷ 0 ∷ countValue count) ⌝ }
 {
-    let numbers: [u64; 3] = [0, 0, count];
-    lay(&numbers, answer)
+    *answer = [0; ANSWER];
+    answer[2] = count;
 }
 
 // The answer of the writer.
-pub fn lay_written(written: Written, answer: &mut [u64]) -> bool
-    ensures { λ r. ⌜ Laid (answerNumbers countValue (writtenSays written)) (now (answer .entry)) r (now (answer .exit)) ⌝ }
+pub fn lay_written(written: Written, answer: &mut [u64; ANSWER])
+    ensures { λ _. ⌜ now (answer .exit) ≡ laid (answerNumbers countValue (writtenSays written)) ⌝ }
 {
     match written {
         Written::Bytes(count) => lay_count(count as u64, answer),
@@ -67,8 +66,8 @@ pub fn lay_written(written: Written, answer: &mut [u64]) -> bool
 }
 
 // The answer of the path.
-pub fn lay_traced(traced: Traced, answer: &mut [u64]) -> bool
-    ensures { λ r. ⌜ Laid (answerNumbers countValue (tracedSays traced)) (now (answer .entry)) r (now (answer .exit)) ⌝ }
+pub fn lay_traced(traced: Traced, answer: &mut [u64; ANSWER])
+    ensures { λ _. ⌜ now (answer .exit) ≡ laid (answerNumbers countValue (tracedSays traced)) ⌝ }
 {
     match traced {
         Traced::Letters(count) => lay_count(count as u64, answer),
@@ -77,26 +76,24 @@ pub fn lay_traced(traced: Traced, answer: &mut [u64]) -> bool
 }
 
 // A count and a reading.
-fn lay_counted(number: u8, place: usize, count: u32, reading: Reading, answer: &mut [u64]) -> bool
-    ensures { λ r. ⌜ Laid (number ∷ place ∷ count ∷ readingValues reading) (now (answer .entry)) r (now (answer .exit)) ⌝ }
+fn lay_counted(number: u8, place: usize, count: u32, reading: Reading, answer: &mut [u64; ANSWER])
+    ensures { λ _. ⌜ now (answer .exit) ≡ laid (number ∷ place ∷ count ∷ readingValues reading) ⌝ }
 {
-    let numbers: [u64; 9] = [
-        number as u64,
-        place as u64,
-        count as u64,
-        reading.state as u64,
-        reading.depth as u64,
-        reading.skip as u64,
-        reading.taken as u64,
-        reading.looks as u64,
-        reading.first as u64,
-    ];
-    lay(&numbers, answer)
+    *answer = [0; ANSWER];
+    answer[0] = number as u64;
+    answer[1] = place as u64;
+    answer[2] = count as u64;
+    answer[3] = reading.state as u64;
+    answer[4] = reading.depth as u64;
+    answer[5] = reading.skip as u64;
+    answer[6] = reading.taken as u64;
+    answer[7] = reading.looks as u64;
+    answer[8] = reading.first as u64;
 }
 
 // The answer of opening: how many states are still, and the fresh reading.
-pub fn lay_opened(opened: Opened, answer: &mut [u64]) -> bool
-    ensures { λ r. ⌜ Laid (answerNumbers openingValues (openedSays opened)) (now (answer .entry)) r (now (answer .exit)) ⌝ }
+pub fn lay_opened(opened: Opened, answer: &mut [u64; ANSWER])
+    ensures { λ _. ⌜ now (answer .exit) ≡ laid (answerNumbers openingValues (openedSays opened)) ⌝ }
 {
     match opened {
         Opened::Ready(opening) => lay_counted(0, 0, opening.still, opening.reading, answer),
@@ -105,8 +102,8 @@ pub fn lay_opened(opened: Opened, answer: &mut [u64]) -> bool
 }
 
 // The answer of feeding: its values stand also where it was refused.
-pub fn lay_fed(fed: Fed, answer: &mut [u64]) -> bool
-    ensures { λ r. ⌜ Laid (fedNumbers (feedingSays (fed .ended)) (fed .taken) (fed .reading)) (now (answer .entry)) r (now (answer .exit)) ⌝ }
+pub fn lay_fed(fed: Fed, answer: &mut [u64; ANSWER])
+    ensures { λ _. ⌜ now (answer .exit) ≡ laid (fedNumbers (feedingSays (fed .ended)) (fed .taken) (fed .reading)) ⌝ }
 {
     let reading = fed.reading;
     let ended = fed.ended;
@@ -133,17 +130,18 @@ fn class_of(verdict: Verdict) -> u64
     }
 }
 
-fn lay_judged(judged: Judgement, answer: &mut [u64]) -> bool
-    ensures { λ r. ⌜ Laid (0 ∷ 0 ∷ verdictSays (judged .verdict) ∷ judged .state ∷ []) (now (answer .entry)) r (now (answer .exit)) ⌝ }
+fn lay_judged(judged: Judgement, answer: &mut [u64; ANSWER])
+    ensures { λ _. ⌜ now (answer .exit) ≡ laid (0 ∷ 0 ∷ verdictSays (judged .verdict) ∷ judged .state ∷ []) ⌝ }
 {
     let verdict = judged.verdict;
-    let numbers: [u64; 4] = [0, 0, class_of(verdict), judged.state as u64];
-    lay(&numbers, answer)
+    *answer = [0; ANSWER];
+    answer[2] = class_of(verdict);
+    answer[3] = judged.state as u64;
 }
 
 // The answer of the end of a reading.
-pub fn lay_end(end: End, answer: &mut [u64]) -> bool
-    ensures { λ r. ⌜ Laid (answerNumbers judgedValues (endSays end)) (now (answer .entry)) r (now (answer .exit)) ⌝ }
+pub fn lay_end(end: End, answer: &mut [u64; ANSWER])
+    ensures { λ _. ⌜ now (answer .exit) ≡ laid (answerNumbers judgedValues (endSays end)) ⌝ }
 {
     match end {
         End::Judged(judged) => lay_judged(judged, answer),

@@ -1,9 +1,9 @@
-// What a host in C or Rust links: the calls of rule and reading on numbers and slices. Each call lays its answer into a
-// lent slice of 64-bit numbers: the number of the refusal or 0, its place or 0, and then the values that were given. It returns
-// whether they fitted: into a slice that is too short nothing is laid. Nine numbers are room enough for every call.
+// What a host in C or Rust links: the calls of rule and reading on numbers and slices. Each call lays its answer into a lent
+// array of 64-bit numbers: the number of the refusal or 0, its place or 0, then the values that were given, and then zeros. An array
+// cannot be too short, so that no call writes to what else it was lent and then cannot answer.
 mod answers;
-mod lay;
 
+use answers::ANSWER;
 use answers::lay_checked;
 use answers::lay_end;
 use answers::lay_fed;
@@ -25,14 +25,22 @@ ghost use Rattle.meaning.specs.RuleFile.{writeCheck, outputAfter};
 ghost use Rattle.meaning.specs.Calls.{openCall, openedBook, feedCall, finishCall, pathCall, pathLaid, wholeDocument};
 ghost use Rattle.rule.specs.Says.{checkAnswer};
 ghost use Rattle.rule.specs.Checks.{ruleFrom};
-ghost use Rattle.host.specs.Numbers.{Laid, answerNumbers, ruleValues, countValue, openingValues, judgedValues, readingFrom, FeedLaid, PathLaid, DocumentLaid};
+ghost use Rattle.host.specs.Numbers.{laid, interfaceVersion, answerNumbers, ruleValues, countValue, openingValues, judgedValues, readingFrom, FeedLaid, PathLaid, DocumentLaid};
+
+// The version of these calls: a host compares it with the one that it was written for.
+#[no_mangle]
+pub extern "C" fn venticapro_version() -> u32
+    ensures { λ r. ⌜ r ≡ interfaceVersion ⌝ }
+{
+    1
+}
 
 // The rule check: n, the initial state, the tree start and k.
 #[no_mangle]
-pub extern "C" fn venticapro_check_rule(file: &[u8], answer: &mut [u64]) -> bool
-    ensures { λ r. ⌜ Laid (answerNumbers ruleValues (checkAnswer (now (file .entry)))) (now (answer .entry)) r (now (answer .exit)) ⌝ }
+pub extern "C" fn venticapro_check_rule(file: &[u8], answer: &mut [u64; ANSWER])
+    ensures { λ _. ⌜ now (answer .exit) ≡ laid (answerNumbers ruleValues (checkAnswer (now (file .entry)))) ⌝ }
 {
-    lay_checked(Rule::of_file(file), answer)
+    lay_checked(Rule::of_file(file), answer);
 }
 
 // The writer: the count of bytes, which lie in the output.
@@ -46,9 +54,9 @@ pub extern "C" fn venticapro_write_rule(
     tree_moves: &[u8],
     classes: &[u8],
     output: &mut [u8],
-    answer: &mut [u64],
-) -> bool
-    ensures { λ r. ⌜ Laid (answerNumbers countValue (writeCheck (ruleFrom states initial «tree_start» letters (now («letter_moves» .entry)) (now («tree_moves» .entry)) (now (classes .entry))) (length (now (output .entry))))) (now (answer .entry)) r (now (answer .exit)) ⌝ }
+    answer: &mut [u64; ANSWER],
+)
+    ensures { λ _. ⌜ now (answer .exit) ≡ laid (answerNumbers countValue (writeCheck (ruleFrom states initial «tree_start» letters (now («letter_moves» .entry)) (now («tree_moves» .entry)) (now (classes .entry))) (length (now (output .entry))))) ⌝ }
     ensures { λ _. ⌜ now (output .exit) ≡ outputAfter (writeCheck (ruleFrom states initial «tree_start» letters (now («letter_moves» .entry)) (now («tree_moves» .entry)) (now (classes .entry))) (length (now (output .entry)))) (ruleFrom states initial «tree_start» letters (now («letter_moves» .entry)) (now («tree_moves» .entry)) (now (classes .entry))) (now (output .entry)) ⌝ }
 {
     let written = write(
@@ -61,18 +69,18 @@ pub extern "C" fn venticapro_write_rule(
         classes,
         output,
     );
-    lay_written(written, answer)
+    lay_written(written, answer);
 }
 
 // Open: how many states are still, and the fresh reading, its state, its four counts and the mark; the book lies in the words lent. A host
 // hands that reading and that book on to feeding and finish. One that wants full reading opens too, and then feeds and finishes
 // with a book of n+1 zeros.
 #[no_mangle]
-pub extern "C" fn venticapro_open(file: &[u8], book: &mut [u64], answer: &mut [u64]) -> bool
-    ensures { λ r. ⌜ Laid (answerNumbers openingValues (openCall (now (file .entry)) (now (book .entry)))) (now (answer .entry)) r (now (answer .exit)) ⌝ }
+pub extern "C" fn venticapro_open(file: &[u8], book: &mut [u64], answer: &mut [u64; ANSWER])
+    ensures { λ _. ⌜ now (answer .exit) ≡ laid (answerNumbers openingValues (openCall (now (file .entry)) (now (book .entry)))) ⌝ }
     ensures { λ _. ⌜ now (book .exit) ≡ openedBook (now (file .entry)) (now (book .entry)) ⌝ }
 {
-    lay_opened(open(file, book), answer)
+    lay_opened(open(file, book), answer);
 }
 
 // Feeding: the events it took and the reading after them, also where an event is refused. The level store is lent as records:
@@ -90,9 +98,9 @@ pub extern "C" fn venticapro_feed(
     first: u16,
     levels: &mut [Level],
     events: &[u16],
-    answer: &mut [u64],
-) -> bool
-    ensures { λ r. ⌜ FeedLaid (feedCall (now (file .entry)) (now (book .entry)) ceiling (readingFrom state depth skip taken looks first) (now (levels .entry)) (now (events .entry))) (readingFrom state depth skip taken looks first) (now (answer .entry)) r (now (levels .exit)) (now (answer .exit)) ⌝ }
+    answer: &mut [u64; ANSWER],
+)
+    ensures { λ _. ⌜ FeedLaid (feedCall (now (file .entry)) (now (book .entry)) ceiling (readingFrom state depth skip taken looks first) (now (levels .entry)) (now (events .entry))) (readingFrom state depth skip taken looks first) (now (levels .exit)) (now (answer .exit)) ⌝ }
 {
     let reading = Reading {
         state,
@@ -103,7 +111,7 @@ pub extern "C" fn venticapro_feed(
         first,
     };
     let fed = feed(file, book, ceiling, reading, &mut *levels, events);
-    lay_fed(fed, answer)
+    lay_fed(fed, answer);
 }
 
 // The end of a reading: the class of the verdict and the end state.
@@ -118,9 +126,9 @@ pub extern "C" fn venticapro_finish(
     looks: u32,
     first: u16,
     levels: &[Level],
-    answer: &mut [u64],
-) -> bool
-    ensures { λ r. ⌜ Laid (answerNumbers judgedValues (finishCall (now (file .entry)) (now (book .entry)) (readingFrom state depth skip taken looks first) (now (levels .entry)))) (now (answer .entry)) r (now (answer .exit)) ⌝ }
+    answer: &mut [u64; ANSWER],
+)
+    ensures { λ _. ⌜ now (answer .exit) ≡ laid (answerNumbers judgedValues (finishCall (now (file .entry)) (now (book .entry)) (readingFrom state depth skip taken looks first) (now (levels .entry)))) ⌝ }
 {
     let reading = Reading {
         state,
@@ -131,7 +139,7 @@ pub extern "C" fn venticapro_finish(
         first,
     };
     let end = finish(file, book, reading, levels);
-    lay_end(end, answer)
+    lay_end(end, answer);
 }
 
 // The path to where a reading stands: how many letters lie in the slice lent for them, the top's first and then that of each
@@ -148,9 +156,9 @@ pub extern "C" fn venticapro_path(
     first: u16,
     levels: &[Level],
     letters: &mut [u16],
-    answer: &mut [u64],
-) -> bool
-    ensures { λ r. ⌜ PathLaid (pathCall (now (file .entry)) (now (book .entry)) (readingFrom state depth skip taken looks first) (now (levels .entry)) (now (letters .entry))) (pathLaid (now (file .entry)) (now (book .entry)) (readingFrom state depth skip taken looks first) (now (levels .entry)) (now (letters .entry))) (now (answer .entry)) r (now (letters .exit)) (now (answer .exit)) ⌝ }
+    answer: &mut [u64; ANSWER],
+)
+    ensures { λ _. ⌜ PathLaid (pathCall (now (file .entry)) (now (book .entry)) (readingFrom state depth skip taken looks first) (now (levels .entry)) (now (letters .entry))) (pathLaid (now (file .entry)) (now (book .entry)) (readingFrom state depth skip taken looks first) (now (levels .entry)) (now (letters .entry))) (now (letters .exit)) (now (answer .exit)) ⌝ }
 {
     let reading = Reading {
         state,
@@ -161,7 +169,7 @@ pub extern "C" fn venticapro_path(
         first,
     };
     let traced = path(file, book, reading, levels, &mut *letters);
-    lay_traced(traced, answer)
+    lay_traced(traced, answer);
 }
 
 // A whole document: the class of the verdict and the end state.
@@ -171,10 +179,10 @@ pub extern "C" fn venticapro_read_document(
     book: &mut [u64],
     levels: &mut [Level],
     events: &[u16],
-    answer: &mut [u64],
-) -> bool
-    ensures { λ r. ⌜ DocumentLaid (wholeDocument (now (file .entry)) (now (book .entry)) (now (levels .entry)) (now (events .entry))) (now (answer .entry)) r (now (book .exit)) (now (levels .exit)) (now (answer .exit)) ⌝ }
+    answer: &mut [u64; ANSWER],
+)
+    ensures { λ _. ⌜ DocumentLaid (wholeDocument (now (file .entry)) (now (book .entry)) (now (levels .entry)) (now (events .entry))) (now (book .exit)) (now (levels .exit)) (now (answer .exit)) ⌝ }
 {
     let end = read_document(file, &mut *book, &mut *levels, events);
-    lay_end(end, answer)
+    lay_end(end, answer);
 }

@@ -7,6 +7,7 @@ pub mod Loans
 pub mod Store
 pub mod Loop
 pub mod ArrayLoans
+pub mod RefLoans
 pub mod Lines
 pub mod Parameters
 pub mod Values

@@ -12,12 +12,9 @@ of-file-requires c κs = search needs
 lay-checked-requires : tie.Need-lay-checked-requires
 lay-checked-requires c κs = search needs
 
-same-length : tie.Need-same-length
-same-length c = search needs
-
 returns : tie.Need-returns
-returns c = laid-says ruleValues (c .before .before .before .before .of-file .ensures) (c .before .before .lay-checked .ensures)
+returns c = laid-says ruleValues (c .before .before .of-file .ensures) (c .lay-checked .ensures)
 
 pub venticapro-check-rule-spec : {M : Type 1} → statement M
 venticapro-check-rule-spec =
-    tie.close (tie.spec of-file-requires lay-checked-requires same-length returns)
+    tie.close (tie.spec of-file-requires lay-checked-requires returns)

@@ -15,14 +15,11 @@ lay-opened-requires c κs = search needs
 same-length : tie.Need-same-length
 same-length c = search needs
 
-same-length-2 : tie.Need-same-length-2
-same-length-2 c = search needs
-
 returns : tie.Need-returns
 returns c =
-    let opened = c .before .before .before .before .before .before .«open» .ensures in
-    (laid-says openingValues (opened .0) (c .before .before .lay-opened .ensures), opened .1)
+    let opened = c .before .before .before .before .«open» .ensures in
+    (laid-says openingValues (opened .0) (c .lay-opened .ensures), opened .1)
 
 pub venticapro-open-spec : {M : Type 1} → statement M
 venticapro-open-spec =
-    tie.close (tie.spec open-requires lay-opened-requires same-length same-length-2 returns)
+    tie.close (tie.spec open-requires lay-opened-requires same-length returns)

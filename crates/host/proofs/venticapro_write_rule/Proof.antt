@@ -15,14 +15,11 @@ lay-written-requires c κs = search needs
 same-length : tie.Need-same-length
 same-length c = search needs
 
-same-length-2 : tie.Need-same-length-2
-same-length-2 c = search needs
-
 returns : tie.Need-returns
 returns c =
-    let written = c .before .before .before .before .before .before .write .ensures in
-    (laid-says countValue (written .0) (c .before .before .lay-written .ensures), written .1)
+    let written = c .before .before .before .before .write .ensures in
+    (laid-says countValue (written .0) (c .lay-written .ensures), written .1)
 
 pub venticapro-write-rule-spec : {M : Type 1} → statement M
 venticapro-write-rule-spec =
-    tie.close (tie.spec write-requires lay-written-requires same-length same-length-2 returns)
+    tie.close (tie.spec write-requires lay-written-requires same-length returns)

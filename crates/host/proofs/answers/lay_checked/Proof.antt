@@ -19,19 +19,13 @@ enum-known-checked-2 c = search needs
 lay-refusal-requires : tie.Need-lay-refusal-requires
 lay-refusal-requires c κs = search needs
 
-same-length : tie.Need-same-length
-same-length c = search needs
-
 returns : tie.Need-returns
 unfolding answerNumbers checkedSays
-returns c = rw (c .before .before .before .before .before .checked .given .1) (c .before .before .lay-rule .ensures)
-
-same-length-2 : tie.Need-same-length-2
-same-length-2 c = search needs
+returns c = rw (c .before .before .before .checked .given .1) (c .lay-rule .ensures)
 
 returns-2 : tie.Need-returns-2
 unfolding answerNumbers checkedSays refusalSays
-returns-2 c = rw (c .before .before .before .before .before .checked2 .given .1) (c .before .before .lay-refusal .ensures)
+returns-2 c = rw (c .before .before .before .checked2 .given .1) (c .lay-refusal .ensures)
 
 pub lay-checked-spec : {M : Type 1} → statement M
 lay-checked-spec =
@@ -41,7 +35,5 @@ lay-checked-spec =
     lay-rule-requires
     enum-known-checked-2
     lay-refusal-requires
-    same-length
     returns
-    same-length-2
     returns-2)

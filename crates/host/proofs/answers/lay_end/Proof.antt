@@ -18,19 +18,13 @@ enum-known-end-2 c = search needs
 lay-refusal-requires : tie.Need-lay-refusal-requires
 lay-refusal-requires c κs = search needs
 
-same-length : tie.Need-same-length
-same-length c = search needs
-
 returns : tie.Need-returns
 unfolding answerNumbers endSays
-returns c = rw (c .before .before .before .before .before .end .given .1) (c .before .before .lay-judged .ensures)
-
-same-length-2 : tie.Need-same-length-2
-same-length-2 c = search needs
+returns c = rw (c .before .before .before .end .given .1) (c .lay-judged .ensures)
 
 returns-2 : tie.Need-returns-2
 unfolding answerNumbers endSays refusalSays
-returns-2 c = rw (c .before .before .before .before .before .end2 .given .1) (c .before .before .lay-refusal .ensures)
+returns-2 c = rw (c .before .before .before .end2 .given .1) (c .lay-refusal .ensures)
 
 pub lay-end-spec : {M : Type 1} → statement M
 lay-end-spec =
@@ -40,7 +34,5 @@ lay-end-spec =
     lay-judged-requires
     enum-known-end-2
     lay-refusal-requires
-    same-length
     returns
-    same-length-2
     returns-2)

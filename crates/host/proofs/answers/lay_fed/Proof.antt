@@ -18,19 +18,13 @@ enum-known-ended c = search needs
 lay-counted-requires-2 : tie.Need-lay-counted-requires-2
 lay-counted-requires-2 c κs = search needs
 
-same-length : tie.Need-same-length
-same-length c = search needs
-
 returns : tie.Need-returns
 unfolding fedNumbers feedingSays
-returns c = rw (c .before .before .before .before .enum-told .given .1) (c .before .before .lay-counted .ensures)
-
-same-length-2 : tie.Need-same-length-2
-same-length-2 c = search needs
+returns c = rw (c .before .before .enum-told .given .1) (c .lay-counted .ensures)
 
 returns-2 : tie.Need-returns-2
 unfolding fedNumbers feedingSays refusalSays
-returns-2 c = rw (c .before .before .before .before .before .ended .given .1) (c .before .before .lay-counted2 .ensures)
+returns-2 c = rw (c .before .before .before .ended .given .1) (c .lay-counted2 .ensures)
 
 pub lay-fed-spec : {M : Type 1} → statement M
 lay-fed-spec =
@@ -40,7 +34,5 @@ lay-fed-spec =
     lay-counted-requires
     enum-known-ended
     lay-counted-requires-2
-    same-length
     returns
-    same-length-2
     returns-2)

@@ -1,28 +1,25 @@
--- `host::answers::lay_judged` meets its contract: the class of the verdict goes between two numbers that are there.
+-- `host::answers::lay_judged` meets its contract: the class of the verdict and the state go into zeros.
 -- Assumes nothing.
 use borrow.Author.Needs.{needs}
+use mathlib.Core.Path.{refl}
 use Rattle.host.proofs.answers.lay_judged.Statement.{statement}
 use Rattle.host.proofs.answers.lay_judged.Tie as tie
 
 class-of-requires : tie.Need-class-of-requires
 class-of-requires c κs = search needs
 
-cast-t6 : tie.Need-cast-t6
-cast-t6 c = search needs
+element-write-answer : tie.Need-element-write-answer
+element-write-answer c = search needs
 
-slice-aggregate-lay : tie.Need-slice-aggregate-lay
-slice-aggregate-lay c = search needs
+cast-answer : tie.Need-cast-answer
+cast-answer c = search needs
 
-lay-requires : tie.Need-lay-requires
-lay-requires c κs = search needs
-
-same-length : tie.Need-same-length
-same-length c = search needs
+element-write-answer-2 : tie.Need-element-write-answer-2
+element-write-answer-2 c = search needs
 
 returns : tie.Need-returns
-returns c = rw (c .before .before .before .before .before .before .class-of .ensures) at (c .before .before .lay .ensures)
+returns c = rw (c .before .class-of .ensures) refl
 
 pub lay-judged-spec : {M : Type 1} → statement M
 lay-judged-spec =
-    tie.close
-    (tie.spec class-of-requires cast-t6 slice-aggregate-lay lay-requires same-length returns)
+    tie.close (tie.spec class-of-requires element-write-answer cast-answer element-write-answer-2 returns)

@@ -18,19 +18,13 @@ enum-known-opened-2 c = search needs
 lay-refusal-requires : tie.Need-lay-refusal-requires
 lay-refusal-requires c κs = search needs
 
-same-length : tie.Need-same-length
-same-length c = search needs
-
 returns : tie.Need-returns
 unfolding answerNumbers openedSays
-returns c = rw (c .before .before .before .before .before .opened .given .1) (c .before .before .lay-counted .ensures)
-
-same-length-2 : tie.Need-same-length-2
-same-length-2 c = search needs
+returns c = rw (c .before .before .before .opened .given .1) (c .lay-counted .ensures)
 
 returns-2 : tie.Need-returns-2
 unfolding answerNumbers openedSays refusalSays
-returns-2 c = rw (c .before .before .before .before .before .opened2 .given .1) (c .before .before .lay-refusal .ensures)
+returns-2 c = rw (c .before .before .before .opened2 .given .1) (c .lay-refusal .ensures)
 
 pub lay-opened-spec : {M : Type 1} → statement M
 lay-opened-spec =
@@ -40,7 +34,5 @@ lay-opened-spec =
     lay-counted-requires
     enum-known-opened-2
     lay-refusal-requires
-    same-length
     returns
-    same-length-2
     returns-2)

@@ -18,19 +18,13 @@ enum-known-traced-2 c = search needs
 lay-refusal-requires : tie.Need-lay-refusal-requires
 lay-refusal-requires c κs = search needs
 
-same-length : tie.Need-same-length
-same-length c = search needs
-
 returns : tie.Need-returns
 unfolding answerNumbers tracedSays
-returns c = rw (c .before .before .before .before .before .traced .given .1) (c .before .before .lay-count .ensures)
-
-same-length-2 : tie.Need-same-length-2
-same-length-2 c = search needs
+returns c = rw (c .before .before .before .traced .given .1) (c .lay-count .ensures)
 
 returns-2 : tie.Need-returns-2
 unfolding answerNumbers tracedSays refusalSays
-returns-2 c = rw (c .before .before .before .before .before .traced2 .given .1) (c .before .before .lay-refusal .ensures)
+returns-2 c = rw (c .before .before .before .traced2 .given .1) (c .lay-refusal .ensures)
 
 pub lay-traced-spec : {M : Type 1} → statement M
 lay-traced-spec =
@@ -40,7 +34,5 @@ lay-traced-spec =
     lay-count-requires
     enum-known-traced-2
     lay-refusal-requires
-    same-length
     returns
-    same-length-2
     returns-2)
