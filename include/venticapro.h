@@ -18,9 +18,9 @@
  * short after it has written elsewhere; a pointer to fewer numbers, or NULL, is a mistake that no call can notice.
  *
  * Refusals. Whatever is in the slices, a call answers or refuses. What each refusal means is in docs/NUMBERS.md, and
- * venticapro_sentence gives its words. A refused call has written nothing but its answer, with two exceptions: feeding takes
- * the events before the one that it refuses, and has its values also then; and venticapro_read_document leaves what opening
- * and feeding left.
+ * venticapro_sentence gives its words. A refused call has written nothing but its answer, with three exceptions: feeding takes
+ * the events before the one that it refuses, and has its values also then; venticapro_read_document leaves what opening and
+ * feeding left; and venticapro_make_card may have written to its room.
  *
  * Threads. Nothing is kept between calls: no global state, no allocation, nothing to initialise or to free. Calls may be made
  * from any thread, at the same time too, as long as no two of them are lent the same memory and one writes to it.
@@ -132,6 +132,21 @@ void venticapro_read_document(const uint8_t *file, size_t file_length, uint64_t 
                               venticapro_level *levels, size_t levels_length, const uint16_t *events, size_t events_length,
                               uint64_t answer[VENTICAPRO_ANSWER]);
 
+/* Makes the card of a block of events: for each state the state in which full reading of the block ends, or VENTICAPRO_NONE. The
+ * room is a byte for each level that the block has open at once; what it holds afterwards, refused or not, is not promised. Value:
+ * how many bytes the card has, which lie in the output: one for each state. With too short an output it refuses with 14, and the
+ * place is the count of bytes needed. Refused, it leaves the output as it was. */
+void venticapro_make_card(const uint8_t *file, size_t file_length, const uint16_t *block, size_t block_length, uint8_t *room,
+                          size_t room_length, uint8_t *output, size_t output_length, uint64_t answer[VENTICAPRO_ANSWER]);
+
+/* Takes a card in the place of its block: one event and one look, and within a part that is passed over one event and no look.
+ * Values, as feeding's: 1 and the reading after the card, or, where it refuses, 0 and the reading that it was handed. It looks at
+ * the level store and writes nothing there. Whatever a card's bytes are, states and VENTICAPRO_NONE, they are obeyed. */
+void venticapro_take_card(const uint8_t *file, size_t file_length, const uint64_t *book, size_t book_length, uint32_t ceiling,
+                          uint8_t state, uint32_t depth, uint32_t skip, uint32_t taken, uint32_t looks, uint16_t first,
+                          const venticapro_level *levels, size_t levels_length, const uint8_t *card, size_t card_length,
+                          uint64_t answer[VENTICAPRO_ANSWER]);
+
 /* ---- refusals */
 
 typedef enum venticapro_number {
@@ -152,7 +167,10 @@ typedef enum venticapro_number {
     VENTICAPRO_SHORT_OUTPUT = 14,
     VENTICAPRO_TOO_MANY_EVENTS = 16,
     VENTICAPRO_NO_TREE_START = 17,
-    VENTICAPRO_NO_TREE_MOVE = 18
+    VENTICAPRO_NO_TREE_MOVE = 18,
+    VENTICAPRO_NO_BLOCK = 25,
+    VENTICAPRO_ROOM_USED_UP = 26,
+    VENTICAPRO_NONE_ON_CARD = 31
 } venticapro_number;
 
 /* The words of a refusal's number, in which P stands for its place: those of docs/NUMBERS.md. NULL for any other number. */
@@ -176,6 +194,9 @@ static inline const char *venticapro_sentence(uint64_t number)
     case 16: return "event P (counted from 0) is one too many: 4,294,967,295 are taken already";
     case 17: return "event P (counted from 0) opens a level, and the rule has no tree start";
     case 18: return "event P (counted from 0) closes a level, and the rule has no tree move there";
+    case 25: return "event P (counted from 0) of the block is a close that matches no open, or not known; or a tree is left open at the block's end, after P events";
+    case 26: return "event P (counted from 0) of the block opens a tree, and the room for open levels is used up";
+    case 31: return "event P (counted from 0) is a card, and it has no state for the one that the reading is in";
     default: return NULL;
     }
 }
@@ -206,7 +227,7 @@ typedef struct venticapro_rule {
     uint16_t letters;
 } venticapro_rule;
 
-/* Of the writer and of the path: how many bytes or letters were laid. */
+/* Of the writer, of the path and of making a card: how many bytes or letters were laid. */
 typedef struct venticapro_counted {
     venticapro_refusal refusal;
     size_t count;
@@ -219,7 +240,7 @@ typedef struct venticapro_opened {
     venticapro_reading reading;
 } venticapro_opened;
 
-/* Of feeding. Its values stand also where it was refused. */
+/* Of feeding and of taking a card. Its values stand also where it was refused. */
 typedef struct venticapro_fed {
     venticapro_refusal refusal;
     uint32_t took; /* how many of the events */
@@ -257,7 +278,7 @@ static inline venticapro_counted venticapro_counted_in(const uint64_t answer[VEN
     return counted;
 }
 
-/* Of opening and of feeding: both have a count before it. */
+/* Of opening, of feeding and of taking a card: all have a count before it. */
 static inline venticapro_reading venticapro_reading_in(const uint64_t answer[VENTICAPRO_ANSWER])
 {
     venticapro_reading reading;
@@ -376,6 +397,26 @@ static inline venticapro_end venticapro_do_read_document(const uint8_t *file, si
     uint64_t answer[VENTICAPRO_ANSWER];
     venticapro_read_document(file, file_length, book, book_length, levels, levels_length, events, events_length, answer);
     return venticapro_end_in(answer);
+}
+
+static inline venticapro_counted venticapro_do_make_card(const uint8_t *file, size_t file_length, const uint16_t *block,
+                                                         size_t block_length, uint8_t *room, size_t room_length,
+                                                         uint8_t *output, size_t output_length)
+{
+    uint64_t answer[VENTICAPRO_ANSWER];
+    venticapro_make_card(file, file_length, block, block_length, room, room_length, output, output_length, answer);
+    return venticapro_counted_in(answer);
+}
+
+static inline venticapro_fed venticapro_do_take_card(const uint8_t *file, size_t file_length, const uint64_t *book,
+                                                     size_t book_length, uint32_t ceiling, venticapro_reading reading,
+                                                     const venticapro_level *levels, size_t levels_length,
+                                                     const uint8_t *card, size_t card_length)
+{
+    uint64_t answer[VENTICAPRO_ANSWER];
+    venticapro_take_card(file, file_length, book, book_length, ceiling, reading.state, reading.depth, reading.skip,
+                         reading.taken, reading.looks, reading.first, levels, levels_length, card, card_length, answer);
+    return venticapro_fed_in(answer);
 }
 
 #ifdef __cplusplus

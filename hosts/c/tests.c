@@ -294,13 +294,45 @@ static void overlap_of_what_is_read(void)
     check(refuses(fed.refusal, VENTICAPRO_UNKNOWN_EVENT, 0), "the bytes of a rule file as events: 10, since its first is no event of rule A");
 }
 
+/* A card made of a block, and taken in its place. */
+static void cards(void)
+{
+    static const uint16_t block[] = {VENTICAPRO_OPENS, VENTICAPRO_LETTER(1), VENTICAPRO_CLOSES};
+    uint8_t room[1] = {9}, output[4] = {7, 7, 7, 7};
+    uint64_t book[4];
+    venticapro_reading first = fresh_a(book);
+    venticapro_counted made;
+    venticapro_fed taken;
+    made = venticapro_do_make_card(rule_a, LENGTH, block, 2, room, 1, output, 4);
+    check(refuses(made.refusal, VENTICAPRO_NO_BLOCK, 2) && output[0] == 7, "a block left open: 25 at its end, and the output stays");
+    made = venticapro_do_make_card(rule_a, LENGTH, block, 3, room, 0, output, 4);
+    check(refuses(made.refusal, VENTICAPRO_ROOM_USED_UP, 0) && output[0] == 7, "no room: 26 at the open, and the output stays");
+    made = venticapro_do_make_card(rule_a, LENGTH, block, 3, room, 1, output, 2);
+    check(refuses(made.refusal, VENTICAPRO_SHORT_OUTPUT, 3) && output[0] == 7, "an output of two bytes: 14, and three are needed");
+    made = venticapro_do_make_card(rule_a, LENGTH, block, 3, room, 1, output, 4);
+    check(fine(made.refusal) && made.count == 3 && output[0] == 2 && output[1] == 1 && output[2] == 2 && output[3] == 7,
+          "a card of three bytes, and the fourth stays");
+    taken = venticapro_do_take_card(rule_a, LENGTH, book, 4, VENTICAPRO_NO_CEILING, first, NULL, 0, output, 3);
+    check(fine(taken.refusal) && taken.took == 1 && taken.reading.state == 2 && taken.reading.taken == 1
+          && taken.reading.looks == 1, "the card taken: one event and one look, to state 2");
+    taken = venticapro_do_take_card(rule_a, LENGTH, book, 4, 0, first, NULL, 0, output, 3);
+    check(refuses(taken.refusal, VENTICAPRO_AT_CEILING, 0) && taken.took == 0 && taken.reading.state == first.state
+          && taken.reading.taken == 0, "at the ceiling: 9, and the reading as it was");
+    taken = venticapro_do_take_card(rule_a, LENGTH, book, 4, VENTICAPRO_NO_CEILING, first, NULL, 0, NULL, 0);
+    check(refuses(taken.refusal, VENTICAPRO_OUT_OF_RANGE, 0), "a card of no bytes: 4 at 0");
+    output[0] = VENTICAPRO_NONE;
+    taken = venticapro_do_take_card(rule_a, LENGTH, book, 4, VENTICAPRO_NO_CEILING, first, NULL, 0, output, 3);
+    check(refuses(taken.refusal, VENTICAPRO_NONE_ON_CARD, 0), "none on the card: 31");
+}
+
 static void numbers_and_words(void)
 {
     uint64_t number;
     check(venticapro_version() == VENTICAPRO_VERSION, "the version of the header is the archive's");
     for (number = 1; number <= 18; number++)
         check((venticapro_sentence(number) == NULL) == (number == 15), "every number but 15 has words");
-    check(venticapro_sentence(0) == NULL && venticapro_sentence(19) == NULL, "0 and 19 have none");
+    check(venticapro_sentence(25) && venticapro_sentence(26) && venticapro_sentence(31), "and so have those of cards");
+    check(venticapro_sentence(0) == NULL && venticapro_sentence(32) == NULL, "0 and 32 have none");
 }
 
 int main(void)
@@ -319,6 +351,7 @@ int main(void)
     misaligned();
 #endif
     overlap_of_what_is_read();
+    cards();
     numbers_and_words();
     printf("%d passed, %d failed\n", passed, failed);
     return failed == 0 ? 0 : 1;

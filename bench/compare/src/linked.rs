@@ -21,17 +21,17 @@ use std::time::Instant;
 
 /// What a call leaves.
 #[derive(Debug, Default, PartialEq)]
-struct Left {
-    answer: Answer,
-    output: Vec<u8>,
+pub(crate) struct Left {
+    pub(crate) answer: Answer,
+    pub(crate) output: Vec<u8>,
     book: Vec<u64>,
-    store: Vec<Level>,
+    pub(crate) store: Vec<Level>,
     letters: Vec<u16>,
 }
 
 impl Left {
     /// An answer's numbers, and zeros after them.
-    fn by(numbers: Vec<u64>) -> Left {
+    pub(crate) fn by(numbers: Vec<u64>) -> Left {
         let mut answer = [0; ANSWER];
         answer[..numbers.len()].copy_from_slice(&numbers);
         Left { answer, ..Left::default() }
@@ -39,7 +39,7 @@ impl Left {
 }
 
 /// The number of the refusal or 0, its place or 0, and then the values.
-fn numbers<T>(answer: Result<T, Refusal>, values: impl Fn(T) -> Vec<u64>) -> Vec<u64> {
+pub(crate) fn numbers<T>(answer: Result<T, Refusal>, values: impl Fn(T) -> Vec<u64>) -> Vec<u64> {
     match answer {
         Ok(given) => [vec![0, 0], values(given)].concat(),
         Err(refusal) => vec![refusal.number as u64, refusal.place],
@@ -56,7 +56,7 @@ fn opening_values(opening: Opening) -> Vec<u64> {
     [vec![opening.still as u64], reading_values(opening.reading)].concat()
 }
 
-fn fed_numbers(fed: Fed) -> Vec<u64> {
+pub(crate) fn fed_numbers(fed: Fed) -> Vec<u64> {
     let (number, place) = match fed.outcome {
         Outcome::AllTaken => (0, 0),
         Outcome::Refused(refusal) => (refusal.number as u64, refusal.place),
@@ -72,7 +72,7 @@ fn end_numbers(end: End) -> Vec<u64> {
 }
 
 /// The arguments of an index are asked here and there.
-struct Comparison<'a> {
+pub(crate) struct Comparison<'a> {
     seed: u64,
     index: u64,
     tally: &'a mut Tally,
@@ -80,7 +80,7 @@ struct Comparison<'a> {
 
 impl Comparison<'_> {
     /// What the call left against what the second reading says.
-    fn same(
+    pub(crate) fn same(
         &mut self,
         name: &'static str,
         can: Can,
@@ -280,6 +280,7 @@ impl Comparison<'_> {
         self.open(&call.rule_file, &book, &held)?;
         self.read_document(&call, &book, &held)?;
         self.calls_in_turn(&call, &book)?;
+        self.cards(&mut rng, &held)?;
 
         let rule = random_rule(&mut rng);
         let good = rule.to_file();
@@ -340,7 +341,7 @@ fn feed_linked(
 }
 
 /// The reading in the answer of opening or of a feed: both have a count before it.
-fn reading_of(answer: &[u64]) -> Reading {
+pub(crate) fn reading_of(answer: &[u64]) -> Reading {
     Reading {
         state: answer[3] as u8,
         depth: answer[4] as u32,

@@ -7,6 +7,7 @@
 
 #![forbid(unsafe_code)]
 
+mod cards;
 mod disagreements;
 mod linked;
 mod program;

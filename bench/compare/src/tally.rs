@@ -12,6 +12,10 @@ pub const FEED: Can = &[1, 2, 3, 4, 5, 6, 7, 8, 9, 10, 11, 13, 16, 17, 18];
 pub const FINISH: Can = &[1, 2, 3, 4, 5, 6, 12, 13];
 pub const PATH: Can = &[1, 2, 3, 4, 5, 6, 13, 14];
 pub const WHOLE: Can = &[1, 2, 3, 4, 5, 6, 7, 8, 10, 11, 12, 17, 18];
+pub const MAKE_CARD: Can = &[1, 2, 3, 4, 5, 14, 25, 26];
+pub const TAKE_CARD: Can = &[1, 2, 3, 4, 5, 6, 9, 13, 16, 31];
+/// A stream with cards, fed and taken in turn, from the reading that opening gave.
+pub const IN_TURN: Can = &[7, 8, 10, 11, 17, 18, 31];
 pub const LINE: Can = &[7, 8, 10, 11, 12, 17, 18];
 
 /// Why some numbers are not brought out.
@@ -25,7 +29,7 @@ const NEVER: &str = "\
 const ENOUGH: u64 = 10_000;
 
 /// The numbers that a refusal can have. 15 was one, and is given to nothing.
-const NUMBERS: &[u64] = &[1, 2, 3, 4, 5, 6, 7, 8, 9, 10, 11, 12, 13, 14, 16, 17, 18];
+const NUMBERS: &[u64] = &[1, 2, 3, 4, 5, 6, 7, 8, 9, 10, 11, 12, 13, 14, 16, 17, 18, 25, 26, 31];
 
 struct Row {
     name: &'static str,

@@ -95,7 +95,11 @@ pub fn random_card(rng: &mut Prng, rule: &Rule) -> Vec<u8> {
         _ => {
             let nones = rng.pick(&[0, 10, 50]);
             let byte = |rng: &mut Prng| {
-                if rng.chance(nones) { Rule::NONE } else { rng.below(rule.n) as u8 }
+                if rng.chance(nones) {
+                    Rule::NONE
+                } else {
+                    rng.below(rule.n) as u8
+                }
             };
             (0..rule.n).map(|_| byte(rng)).collect()
         }

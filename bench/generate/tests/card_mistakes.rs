@@ -104,7 +104,11 @@ fn read_block(rule: &Rule, block: &[u16], from: usize, mistake: Mistake) -> Opti
         state = match event {
             0 => {
                 above.push(state);
-                if mistake == StateAboveKeptInside { state } else { rule.tree_start }
+                if mistake == StateAboveKeptInside {
+                    state
+                } else {
+                    rule.tree_start
+                }
             }
             1 => {
                 let Some(upper) = above.pop() else { continue };
@@ -172,7 +176,8 @@ fn mistaken_card(mistake: Mistake, making: &Making, output: &mut [u8]) -> Result
                 found = Some((26, place));
                 break;
             }
-            depth = if event == 0 { depth + 1 } else { depth.saturating_sub((event == 1) as usize) };
+            depth =
+                if event == 0 { depth + 1 } else { depth.saturating_sub((event == 1) as usize) };
         }
     }
     let short = if mistake == OutputOneByteShortIsEnough {
@@ -232,7 +237,9 @@ fn admitted(taking: &Taking) -> Result<Rule, Refusal> {
     let fed = reader::feed(&call.rule_file, &call.book, call.reading, &mut store, &[], u32::MAX);
     match fed.outcome {
         reader::Outcome::Refused(refusal) => Err(refusal),
-        reader::Outcome::AllTaken => Ok(Rule::from_file(&call.rule_file).expect("an admitted rule")),
+        reader::Outcome::AllTaken => {
+            Ok(Rule::from_file(&call.rule_file).expect("an admitted rule"))
+        }
     }
 }
 
@@ -278,12 +285,8 @@ fn mistaken_taking(mistake: Mistake, taking: &Taking) -> Result<Reading, Refusal
     }
     let refused = |number| Err(Refusal::new(number, now.taken as u64));
     let full = now.taken == u32::MAX;
-    let settled = is_settled(
-        &call.book,
-        call.store[..now.depth as usize].last(),
-        now.state,
-        mistake,
-    );
+    let settled =
+        is_settled(&call.book, call.store[..now.depth as usize].last(), now.state, mistake);
     if full && !(mistake == LimitAfterTheLook) && !(mistake == LimitOnlyAtLooks && settled) {
         return refused(16);
     }

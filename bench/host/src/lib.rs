@@ -3,7 +3,7 @@
 use reader::{Level, Reading};
 use venticapro::calls;
 
-pub use calls::{check_rule, open, Answer, ANSWER};
+pub use calls::{check_rule, make_card, open, Answer, ANSWER};
 pub use venticapro::Tables;
 
 /// The writer. Value: the count of bytes.
@@ -79,6 +79,20 @@ pub fn path(
     answer: &mut Answer,
 ) {
     calls::path(file, book, handed_over(reading), &store.records, letters, answer)
+}
+
+/// Taking a card. Values: 1 and the reading after it, or, refused, 0 and the reading
+/// before it.
+pub fn take_card(
+    file: &[u8],
+    book: &[u64],
+    ceiling: u32,
+    reading: Reading,
+    store: &Store,
+    card: &[u8],
+    answer: &mut Answer,
+) {
+    calls::take_card(file, book, ceiling, handed_over(reading), &store.records, card, answer)
 }
 
 /// A whole document. Values: the class of the verdict, the end state.

@@ -24,6 +24,7 @@ use Rattle.meaning.specs.Calls.{Whole, endSays, tracedSays, feedingSays, wholeD
 use Rattle.meaning.specs.declared.End.{End}
 use Rattle.meaning.specs.declared.Fed.{Fed}
 use Rattle.meaning.specs.declared.Level.{Level}
+use Rattle.meaning.specs.declared.Reading.{Reading}
 use Rattle.meaning.specs.declared.Traced.{Traced}
 use Rattle.levels.proofs.Values.{FitsIn, passed}
 use Rattle.levels.proofs.Element.{record-type}
@@ -34,13 +35,19 @@ use Rattle.levels.proofs.RefLoans.{at-value, Holding, again}
 use Rattle.reading.specs.Whole.{ReadIs}
 use Rattle.reading.proofs.Called.{fed-value, end-value}
 use Rattle.reading.proofs.Traces.{traced-value}
+use Rattle.reading.proofs.Passed.{reading-value}
+use Rattle.card.specs.Taking.{takingSays}
+use Rattle.card.specs.declared.Taking.{Taking}
+use Rattle.card.proofs.Called.{taking-value}
 use Rattle.reading.proofs.read_document as read-document
 use Rattle.reading.proofs.read_document.Symbol.{name as #read-document}
-use Rattle.host.specs.Numbers.{answerLength, laid, answerNumbers, countValue, judgedValues, fedNumbers}
+use Rattle.host.specs.Numbers.{answerLength, laid, answerNumbers, countValue, judgedValues, fedNumbers, takenNumbers}
 use Rattle.host.proofs.answers.lay_fed as lay-fed
 use Rattle.host.proofs.answers.lay_fed.Symbol.{name as #lay-fed}
 use Rattle.host.proofs.answers.lay_traced as lay-traced
 use Rattle.host.proofs.answers.lay_traced.Symbol.{name as #lay-traced}
+use Rattle.host.proofs.answers.lay_taken as lay-taken
+use Rattle.host.proofs.answers.lay_taken.Symbol.{name as #lay-taken}
 use Rattle.host.proofs.answers.lay_end as lay-end
 use Rattle.host.proofs.answers.lay_end.Symbol.{name as #lay-end}
 
@@ -72,6 +79,14 @@ module _ {M : Type 1} {𝓤 : URA M} {H : Heap 𝓤} {A : Atoms 𝓤} (W : Given
       replies-one W 𝓣 #lay-traced (passed traced-value x fits ∷ lent (again answer-type W κ q γ b o held) ∷ []) Nothing (λ _. vunit) nothing-tells (λ _ ws. ws .1 .0 ≡ laid (answerNumbers countValue (tracedSays x))) (emp 𝓤) (id⊢ 𝓤 (emp 𝓤)) tt (tt, (laid (answerNumbers countValue (tracedSays x)), tt))
       (λ z. known (((z .0 .0 ∷ [], tt), (fullShare, tt), tt, (x, (at-value answer-type (z .0 .1) b o held, tt)), (traced-value .val x ∷ [], (vptr b o ∷ [], tt))), tt))
       (λ y ws e. (refl, ap (λ (zs : List ℕ). (tt, (zs, tt))) e))
+
+  pub lay-taken-by : (r : Reading) (x : Taking) (held : List ℕ) → Meets 𝓤 H A lay-taken.signature (𝓣 .C #lay-taken) (lay-taken.spec 𝓤 H A at-mem run) → (κ : Lft) (q : Share) (γ : GName) {b o : ℕ} → FitsIn reading-value r → FitsIn taking-value x
+      → Gives 𝓤 H A (𝓣 .C #lay-taken) (‵ (Holding answer-type κ q γ b o held) ∷ []) (reading-value .val r ∷ taking-value .val x ∷ vptr b o ∷ [])
+      (Is Nothing tt (vunit ∷ [])) (λ _. vunit) (λ _. ‵ (Holding answer-type κ q γ b o (laid (takenNumbers r (takingSays x)))) ∷ [])
+  lay-taken-by r x held known κ q γ {b} {o} f0 f1 =
+      replies-one W 𝓣 #lay-taken (passed reading-value r f0 ∷ passed taking-value x f1 ∷ lent (again answer-type W κ q γ b o held) ∷ []) Nothing (λ _. vunit) nothing-tells (λ _ ws. ws .1 .1 .0 ≡ laid (takenNumbers r (takingSays x))) (emp 𝓤) (id⊢ 𝓤 (emp 𝓤)) tt (tt, (tt, (laid (takenNumbers r (takingSays x)), tt)))
+      (λ z. known (((z .0 .0 ∷ [], tt), (fullShare, tt), tt, (r, (x, (at-value answer-type (z .0 .1) b o held, tt))), (reading-value .val r ∷ [], (taking-value .val x ∷ [], (vptr b o ∷ [], tt)))), tt))
+      (λ y ws e. (refl, ap (λ (zs : List ℕ). (tt, (tt, (zs, tt)))) e))
 
   pub read-document-by : (file : List ℕ) (book : List ℕ) (levels : List Level) (events : List ℕ) → Meets 𝓤 H A read-document.signature (𝓣 .C #read-document) (read-document.spec 𝓤 H A at-mem run) → {b₀ o₀ n₀ b₁ o₁ n₁ b₂ o₂ n₂ b₃ o₃ n₃ : ℕ} (l₀ : ShrLoan 𝓤 H A u8 b₀ o₀ n₀ file) (l₁ : MutLoan 𝓤 H A u64 b₁ o₁ n₁ book) (l₂ : MutLoan 𝓤 H A record-type b₂ o₂ n₂ levels) (l₃ : ShrLoan 𝓤 H A u16 b₃ o₃ n₃ events)
       → Gives 𝓤 H A (𝓣 .C #read-document) (l₀ .before ∷ l₁ .before ∷ l₂ .before ∷ l₃ .before ∷ []) (sliceVal (b₀, o₀) n₀ ∷ sliceVal (b₁, o₁) n₁ ∷ sliceVal (b₂, o₂) n₂ ∷ sliceVal (b₃, o₃) n₃ ∷ [])

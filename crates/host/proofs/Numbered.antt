@@ -13,11 +13,12 @@ use Rattle.meaning.specs.FullReading.{Event, opens, closes, letter, eventOf, Tu
 use Rattle.meaning.specs.SkipBook.{bookCheck, makeBook}
 use Rattle.meaning.specs.Skipping.{settledTurn, endsLevel, skipTurn, skipEvent}
 use Rattle.meaning.specs.Calls.{Stored, openCall, storeStep, readingCheck, fedFrom, feedCall, endOf, finishCall, finishFed, readWith, wholeFrom, wholeDocument, pathFits, pathCall}
+use Rattle.meaning.specs.Cards.{blockEvent, blockCheck, makeCard, cardLook, cardTurn, skipCard, cardCheck, takeCard}
 use Rattle.meaning.specs.declared.Reading.{Reading}
 use Rattle.meaning.specs.declared.Level.{Level}
 use Rattle.meaning.specs.declared.Opening.{Opening}
 use Rattle.rule.specs.Says.{checkAnswer}
-use Rattle.host.specs.Numbers.{answerNumbers, fedNumbers}
+use Rattle.host.specs.Numbers.{answerNumbers, fedNumbers, takenNumbers}
 
 pub data Numbered {A : Type 0} : Answer A → Type 0 where
   isGiven : {a : A} → Numbered (given a)
@@ -189,6 +190,42 @@ pub document-numbered : (file book : List ℕ) (store : List Level) (events : Li
 unfolding wholeDocument
 document-numbered file book store events = whole _ file book store events (open-numbered file book)
 
+-- ---- cards
+
+block-event : (k room place depth : ℕ) (e : Event) (next : ℕ → Answer Unit) → ((d : ℕ) → Numbered (next d))
+    → Numbered (blockEvent k room place depth e next)
+unfolding blockEvent
+block-event k room place depth (letter a) next n = refuses _ _ _ _ (omega arith) (n _)
+block-event k room place depth opens next n = refuses _ _ _ _ (omega arith) (n _)
+block-event k room place depth closes next n = refuses _ _ _ _ (omega arith) (n _)
+
+block : (k room place depth : ℕ) (es : List ℕ) → Numbered (blockCheck k room place depth es)
+unfolding blockCheck
+block k room place depth [] = refuses _ _ _ _ (omega arith) isGiven
+block k room place depth (e ∷ es) = block-event k room place depth (eventOf e) _ (λ d. block k room _ d es)
+
+pub make-card-numbered : (file events : List ℕ) (room size : ℕ) → Numbered (makeCard file events room size)
+unfolding makeCard
+make-card-numbered file events room size =
+    gives _ _ (rule-numbered file) (λ R. refuses _ _ _ _ (omega arith) (follows _ _ (block _ room 0 0 events) isGiven))
+
+card-looks : (r : Reading) (m : Move) → Numbered (cardLook r m)
+unfolding cardLook
+card-looks r noMove = isRefused {number = 31} (omega arith)
+card-looks r (to q) = isGiven
+
+skips-card : (book : List ℕ) (ceiling : ℕ) (r : Reading) (top : Level) (card : List ℕ) → Numbered (skipCard book ceiling r top card)
+unfolding skipCard cardTurn
+skips-card book ceiling r top card =
+    refuses _ _ _ _ (omega arith) (either _ _ _ isGiven (refuses _ _ _ _ (omega arith) (card-looks _ _)))
+
+pub take-card-numbered : (file book : List ℕ) (ceiling : ℕ) (r : Reading) (store : List Level) (card : List ℕ)
+    → Numbered (takeCard file book ceiling r store card)
+unfolding takeCard cardCheck
+take-card-numbered file book ceiling r store card =
+    gives _ _ (reading file book r store)
+    (λ R. follows _ _ (refuses _ _ _ _ (omega arith) (table _ _ _)) (skips-card book ceiling r _ card))
+
 -- ---- what a host may count on
 
 pub zero-given : {A : Type 0} (values : A → List ℕ) (x : Answer A) → Numbered x → getD (answerNumbers values x) 0 0 ≡ 0 → (a : A) × (x ≡ given a)
@@ -200,3 +237,8 @@ pub zero-fed : (x : Answer Unit) (took : ℕ) (r : Reading) → Numbered x → g
 unfolding fedNumbers
 zero-fed (given done) took r n e = refl
 zero-fed (refused number place) took r (isRefused h) e = absurd (omega arith)
+
+pub zero-taken : (before : Reading) (x : Answer Reading) → Numbered x → getD (takenNumbers before x) 0 0 ≡ 0 → (r : Reading) × (x ≡ given r)
+unfolding takenNumbers
+zero-taken before (given r) n e = (r, refl)
+zero-taken before (refused number place) (isRefused h) e = absurd (omega arith)

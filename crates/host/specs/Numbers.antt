@@ -37,7 +37,7 @@ answerNumbers values (refused number place) = number ∷ place ∷ []
 abbrev pub ruleValues : Rule → List ℕ
 ruleValues R = R .states ∷ R .initial ∷ R .«tree_start» ∷ R .letters ∷ []
 
--- the count of bytes written, or of letters laid
+-- the count of bytes written, of letters laid, or of a card's bytes
 abbrev pub countValue : ℕ → List ℕ
 countValue count = count ∷ []
 
@@ -61,6 +61,11 @@ fedNumbers (refused number place) took r = number ∷ place ∷ took ∷ reading
 -- the same of what the definition of feeding says, from the reading before it
 abbrev pub wentNumbers : Reading → Went Stored → List ℕ
 wentNumbers before w = fedNumbers (w .ended) (eventsTaken before w) (w .last .reading)
+
+-- Taking a card has its values as feeding has: 1 and the reading after the card, or, refused, 0 and the reading before it.
+unfoldable pub takenNumbers : Reading → Answer Reading → List ℕ
+takenNumbers before (given r) = 0 ∷ 0 ∷ 1 ∷ readingValues r
+takenNumbers before (refused number place) = number ∷ place ∷ 0 ∷ readingValues before
 
 -- ---- a reading, which a host hands over as six numbers
 

@@ -1,4 +1,5 @@
 // The numbers of each answer, laid into the lent array: zeros come after them.
+use card::Taking;
 use meaning::End;
 use meaning::Fed;
 use meaning::Feeding;
@@ -15,7 +16,8 @@ ghost use mathlib.Core.Path.{_≡_};
 ghost use mathlib.Core.List.{[], _∷_};
 ghost use Rattle.meaning.specs.Calls.{openedSays, verdictSays, endSays, tracedSays, feedingSays};
 ghost use Rattle.rule.specs.Says.{checkedSays, writtenSays};
-ghost use Rattle.host.specs.Numbers.{laid, answerNumbers, ruleValues, countValue, openingValues, readingValues, judgedValues, fedNumbers};
+ghost use Rattle.card.specs.Taking.{takingSays};
+ghost use Rattle.host.specs.Numbers.{laid, answerNumbers, ruleValues, countValue, openingValues, readingValues, judgedValues, fedNumbers, takenNumbers};
 
 // How many numbers an answer has: more than any call gives, so that none is too short.
 pub const ANSWER: usize = 16;
@@ -55,7 +57,7 @@ fn lay_count(count: u64, answer: &mut [u64; ANSWER])
     answer[2] = count;
 }
 
-// The answer of the writer.
+// The answer of the writer, and of making a card.
 pub fn lay_written(written: Written, answer: &mut [u64; ANSWER])
     ensures { λ _. ⌜ now (answer .exit) ≡ laid (answerNumbers countValue (writtenSays written)) ⌝ }
 {
@@ -116,6 +118,16 @@ pub fn lay_fed(fed: Fed, answer: &mut [u64; ANSWER])
             reading,
             answer,
         ),
+    }
+}
+
+// The answer of taking a card, from the reading before it: its values stand also where it was refused.
+pub fn lay_taken(before: Reading, taking: Taking, answer: &mut [u64; ANSWER])
+    ensures { λ _. ⌜ now (answer .exit) ≡ laid (takenNumbers before (takingSays taking)) ⌝ }
+{
+    match taking {
+        Taking::Taken(reading) => lay_counted(0, 0, 1, reading, answer),
+        Taking::Refused(refusal) => lay_counted(refusal.number, refusal.place, 0, before, answer),
     }
 }
 

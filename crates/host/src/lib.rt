@@ -1,4 +1,4 @@
-// What a host in C or Rust links: the calls of rule and reading on numbers and slices. Each call lays its answer into a lent
+// What a host in C or Rust links: the calls of rule, reading and card on numbers and slices. Each call lays its answer into a lent
 // array of 64-bit numbers: the number of the refusal or 0, its place or 0, then the values that were given, and then zeros. An array
 // cannot be too short, so that no call writes to what else it was lent and then cannot answer.
 mod answers;
@@ -8,8 +8,11 @@ use answers::lay_checked;
 use answers::lay_end;
 use answers::lay_fed;
 use answers::lay_opened;
+use answers::lay_taken;
 use answers::lay_traced;
 use answers::lay_written;
+use card::make_card;
+use card::take_card;
 use meaning::Level;
 use meaning::Reading;
 use reading::feed;
@@ -23,9 +26,10 @@ ghost use mathlib.Core.Path.{_≡_};
 ghost use lib.ListN.{length};
 ghost use Rattle.meaning.specs.RuleFile.{writeCheck, outputAfter};
 ghost use Rattle.meaning.specs.Calls.{openCall, openedBook, feedCall, finishCall, pathCall, pathLaid, wholeDocument};
+ghost use Rattle.meaning.specs.Cards.{makeCard, cardLaid, takeCard};
 ghost use Rattle.rule.specs.Says.{checkAnswer};
 ghost use Rattle.rule.specs.Checks.{ruleFrom};
-ghost use Rattle.host.specs.Numbers.{laid, interfaceVersion, answerNumbers, ruleValues, countValue, openingValues, judgedValues, readingFrom, FeedLaid, PathLaid, DocumentLaid};
+ghost use Rattle.host.specs.Numbers.{laid, interfaceVersion, answerNumbers, ruleValues, countValue, openingValues, judgedValues, readingFrom, takenNumbers, FeedLaid, PathLaid, DocumentLaid};
 
 // The version of these calls: a host compares it with the one that it was written for.
 #[no_mangle]
@@ -185,4 +189,52 @@ pub extern "C" fn venticapro_read_document(
 {
     let end = read_document(file, &mut *book, &mut *levels, events);
     lay_end(end, answer);
+}
+
+// Making a card: the count of bytes, n, which lie in the output. The room for open levels is a byte a level, and what it then
+// holds is not promised.
+#[no_mangle]
+pub extern "C" fn venticapro_make_card(
+    file: &[u8],
+    block: &[u16],
+    room: &mut [u8],
+    output: &mut [u8],
+    answer: &mut [u64; ANSWER],
+)
+    ensures { λ _. ⌜ now (answer .exit) ≡ laid (answerNumbers countValue (makeCard (now (file .entry)) (now (block .entry)) (length (now (room .entry))) (length (now (output .entry))))) ⌝ }
+    ensures { λ _. ⌜ now (output .exit) ≡ cardLaid (now (file .entry)) (now (block .entry)) (length (now (room .entry))) (now (output .entry)) ⌝ }
+{
+    let made = make_card(file, block, room, output);
+    lay_written(made, answer);
+}
+
+// Taking a card in the place of its block: 1 and the reading after it, or, where it is refused, 0 and the reading that was handed
+// over. The level store is looked at, and stays.
+#[no_mangle]
+pub extern "C" fn venticapro_take_card(
+    file: &[u8],
+    book: &[u64],
+    ceiling: u32,
+    state: u8,
+    depth: u32,
+    skip: u32,
+    taken: u32,
+    looks: u32,
+    first: u16,
+    levels: &[Level],
+    card: &[u8],
+    answer: &mut [u64; ANSWER],
+)
+    ensures { λ _. ⌜ now (answer .exit) ≡ laid (takenNumbers (readingFrom state depth skip taken looks first) (takeCard (now (file .entry)) (now (book .entry)) ceiling (readingFrom state depth skip taken looks first) (now (levels .entry)) (now (card .entry)))) ⌝ }
+{
+    let reading = Reading {
+        state,
+        depth,
+        skip,
+        taken,
+        looks,
+        first,
+    };
+    let taking = take_card(file, book, ceiling, reading, levels, card);
+    lay_taken(reading, taking, answer);
 }

@@ -78,4 +78,11 @@ calls! {
 
     /// A whole document, under [`crate::DEFAULT_CEILING`] looks. Values: the class of the verdict, the end state.
     read_document = venticapro_read_document(file: &[u8], book: &mut [u64], levels: &mut [Level], events: &[u16]);
+
+    /// Making the card of a block, into the output. Value: how many bytes it has. What the room then holds is not promised.
+    make_card = venticapro_make_card(file: &[u8], block: &[u16], room: &mut [u8], output: &mut [u8]);
+
+    /// Taking a card in the place of its block. Values, as feeding's: 1 and the reading after it, or, refused, 0 and the reading
+    /// that was handed over.
+    take_card = venticapro_take_card(file: &[u8], book: &[u64], ceiling: u32, reading: Reading, levels: &[Level], card: &[u8]);
 }

@@ -102,7 +102,7 @@ pub struct Reading {
 }
 
 impl Reading {
-    /// The reading in the answer of opening or feeding: both have a count before it.
+    /// The reading in the answer of opening, of feeding or of taking a card: all have a count before it.
     pub fn in_answer(answer: &Answer) -> Reading {
         Reading {
             state: answer[3] as u8,
@@ -235,6 +235,17 @@ impl<'a> Rule<'a> {
         Ok(Opened { file: self.file, book, still, first })
     }
 
+    /// The card of a block of events: for each state the state in which full reading of the block ends, or [`NONE`].
+    /// [`Reader::take`] takes it in the place of the block.
+    pub fn make_card(&self, block: &[u16]) -> Result<Vec<u8>, Refusal> {
+        let opens = block.iter().filter(|&&event| event == OPENS).count();
+        let (mut room, mut card) = (vec![0; opens], vec![0; self.states as usize]);
+        let mut answer = [0; ANSWER];
+        calls::make_card(self.file, block, &mut room, &mut card, &mut answer);
+        Refusal::unless_fine(&answer)?;
+        Ok(card)
+    }
+
     /// Opens, feeds and finishes one document, with room for so many open levels and under [`DEFAULT_CEILING`]. Where another
     /// ceiling, blocks or the path are wanted, open the rule and feed a [`Reader`].
     pub fn read(&self, levels: usize, events: &[u16]) -> Result<End, Refusal> {
@@ -312,6 +323,23 @@ impl Reader<'_> {
             self.reading,
             &mut self.levels,
             events,
+            &mut answer,
+        );
+        self.reading = Reading::in_answer(&answer);
+        Refusal::unless_fine(&answer)
+    }
+
+    /// Takes a card in the place of its block: one event and one look, or, within a part that is passed over, one event. Where it
+    /// is refused, the reading stands as it stood.
+    pub fn take(&mut self, card: &[u8]) -> Result<(), Refusal> {
+        let mut answer = [0; ANSWER];
+        calls::take_card(
+            self.file,
+            &self.book,
+            self.ceiling,
+            self.reading,
+            &self.levels,
+            card,
             &mut answer,
         );
         self.reading = Reading::in_answer(&answer);

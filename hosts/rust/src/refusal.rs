@@ -49,6 +49,9 @@ impl Refusal {
             16 => "event P (counted from 0) is one too many: 4,294,967,295 are taken already",
             17 => "event P (counted from 0) opens a level, and the rule has no tree start",
             18 => "event P (counted from 0) closes a level, and the rule has no tree move there",
+            25 => "event P (counted from 0) of the block is a close that matches no open, or not known; or a tree is left open at the block's end, after P events",
+            26 => "event P (counted from 0) of the block opens a tree, and the room for open levels is used up",
+            31 => "event P (counted from 0) is a card, and it has no state for the one that the reading is in",
             _ => "a number that this version does not know",
         }
     }

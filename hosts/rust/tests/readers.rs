@@ -1,7 +1,7 @@
 //! Readers by the rules of examples/: blocks, refusals, paths, threads.
 
 use venticapro::{calls, letter, Refusal, Rule, Tables, Verdict};
-use venticapro::{CLOSES, DEFAULT_CEILING, NO_CEILING, OPENS, VERSION};
+use venticapro::{CLOSES, DEFAULT_CEILING, NONE, NO_CEILING, OPENS, VERSION};
 
 fn file(name: &str) -> Vec<u8> {
     let folder = concat!(env!("CARGO_MANIFEST_DIR"), "/../../examples/rules/");
@@ -136,6 +136,27 @@ fn what_is_written_is_what_was_read() {
     assert_eq!(Rule::write(tables), Ok(bytes.clone()));
     let refusal = Rule::write(Tables { states: 65, ..tables }).unwrap_err();
     assert_eq!((refusal.number, refusal.place), (4, 6));
+}
+
+#[test]
+fn a_card_is_taken_for_its_block() {
+    let file = file("rule-a");
+    let rule = Rule::check(&file).expect("a good rule");
+    let block = [OPENS, letter(1), CLOSES];
+    let card = rule.make_card(&block).expect("a good block");
+    assert_eq!(card, [2, 1, 2]);
+    let opened = rule.open().expect("a good rule");
+    let (mut fed, mut taken) = (opened.full_reader(4), opened.full_reader(4));
+    fed.feed(&block).expect("its moves are there");
+    taken.take(&card).expect("its state is there");
+    assert_eq!(taken.finish(), fed.finish());
+    assert_eq!((taken.reading().taken, taken.reading().looks), (1, 1));
+
+    assert_eq!(rule.make_card(&[CLOSES]), Err(Refusal { number: 25, place: 0 }));
+    let before = taken.reading();
+    assert_eq!(taken.take(&[2, 1]), Err(Refusal { number: 4, place: 0 }));
+    assert_eq!(taken.take(&[0, 1, NONE]), Err(Refusal { number: 31, place: 1 }));
+    assert_eq!(taken.reading(), before);
 }
 
 #[test]
