@@ -13,7 +13,7 @@ mod timing;
 
 use host::{Store, ANSWER};
 use reader::{stream, Fed, Level, Outcome, Reading, Rule, NO_LETTER};
-use report::{Call, Full, Passing, Report};
+use report::{Call, Cards, Full, Passing, Report};
 use std::process::ExitCode;
 use timing::least;
 
@@ -52,6 +52,7 @@ fn measured() -> Report {
         full: full_reading(),
         passing: passing_over(),
         calls: single_calls(),
+        cards: cards(),
     }
 }
 
@@ -256,6 +257,88 @@ fn single_calls() -> Vec<Call> {
         proved,
         plain: safe,
         sum,
+    });
+    rows
+}
+
+/// Cards: one made of a long block against the block read in full from each state, and
+/// a file of equal blocks with each taken as its card against the file in full.
+fn cards() -> Vec<Cards> {
+    let mut rows = Vec::new();
+    for (name, rule) in [
+        ("made of 1,000,000 events, n 16, k 16", inputs::mixing(16, 16)),
+        ("made of 1,000,000 events, n 64, k 256", inputs::mixing(64, 256)),
+    ] {
+        let file = rule.to_file();
+        let block = inputs::mixed(rule.k, 1_000_000);
+        let mut expected = vec![0; rule.n];
+        reader::make_card(&file, &block, 64, &mut expected).expect("a good block");
+        let (mut room, mut card, mut answer) = (vec![0; 64], vec![0; rule.n], [0; ANSWER]);
+        host::make_card(&file, &block, &mut room, &mut card, &mut answer);
+        assert_eq!(card, expected);
+
+        let zeros = vec![0; rule.n + 1];
+        let fresh = reader::open(&file, &mut zeros.clone()).expect("a good rule").reading;
+        let mut store = Store::new(&vec![Level::default(); 64]);
+        let mut ends = || {
+            let end = |state: u8| {
+                let first = Reading { state, ..fresh };
+                feed_linked(&file, &zeros, first, &mut store, &block).reading.state
+            };
+            (0..rule.n as u8).map(end).collect::<Vec<u8>>()
+        };
+        assert_eq!(ends(), expected);
+        let [with, without] = least(
+            REPETITIONS,
+            1,
+            [
+                &mut || {
+                    host::make_card(&file, &block, &mut room, &mut card, &mut answer);
+                    card[0] as u64
+                },
+                &mut || ends()[0] as u64,
+            ],
+        );
+        rows.push(Cards { name, against: "the block read in full from each state", with, without });
+    }
+
+    let rule = inputs::mixing(16, 16);
+    let file = rule.to_file();
+    let block = inputs::mixed(rule.k, 1_000);
+    let events = block.repeat(1_000);
+    let mut card = vec![0; rule.n];
+    reader::make_card(&file, &block, 64, &mut card).expect("a good block");
+    let zeros = vec![0; rule.n + 1];
+    let first = reader::open(&file, &mut zeros.clone()).expect("a good rule").reading;
+    let mut store = Store::new(&vec![Level::default(); 64]);
+    let levels = store.clone();
+    let taken = || {
+        let mut answer = [0; ANSWER];
+        let mut now = first;
+        for _ in 0..1_000 {
+            host::take_card(&file, &zeros, LARGEST, now, &levels, &card, &mut answer);
+            now = Reading {
+                state: answer[3] as u8,
+                taken: answer[6] as u32,
+                looks: answer[7] as u32,
+                ..now
+            };
+        }
+        now.state
+    };
+    assert_eq!(taken(), feed_linked(&file, &zeros, first, &mut store, &events).reading.state);
+    let [with, without] = least(
+        REPETITIONS,
+        1,
+        [&mut || taken() as u64, &mut || {
+            feed_linked(&file, &zeros, first, &mut store, &events).reading.state as u64
+        }],
+    );
+    rows.push(Cards {
+        name: "a file of 1,000 equal blocks of 1,000 events, n 16, k 16, each taken as its card",
+        against: "the file fed at once, in full",
+        with,
+        without,
     });
     rows
 }

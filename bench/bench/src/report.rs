@@ -32,6 +32,14 @@ pub struct Call {
     pub sum: f64,
 }
 
+/// A card against its block, nanoseconds.
+pub struct Cards {
+    pub name: &'static str,
+    pub against: &'static str,
+    pub with: f64,
+    pub without: f64,
+}
+
 /// The least of each figure in two lots of the same rows.
 fn least_of<Row>(
     mut rows: Vec<Row>,
@@ -52,6 +60,7 @@ pub struct Report {
     pub full: Vec<Full>,
     pub passing: Vec<Passing>,
     pub calls: Vec<Call>,
+    pub cards: Vec<Cards>,
 }
 
 const BEGIN: &str = "<!-- measured -->\n";
@@ -71,6 +80,7 @@ impl Report {
             calls: least_of(self.calls, other.calls, |row| {
                 vec![&mut row.proved, &mut row.plain, &mut row.sum]
             }),
+            cards: least_of(self.cards, other.cards, |row| vec![&mut row.with, &mut row.without]),
         }
     }
 
@@ -149,6 +159,24 @@ impl Report {
                 row.plain / row.proved,
                 row.safe,
                 row.sum / 1000.0
+            )?;
+        }
+
+        writeln!(text, "\n### Cards, milliseconds\n")?;
+        writeln!(
+            text,
+            "| a card | proved | against, proved | its time | its time / with the card |"
+        )?;
+        writeln!(text, "|---|---:|---|---:|---:|")?;
+        for row in &self.cards {
+            writeln!(
+                text,
+                "| {} | {:.3} | {} | {:.3} | {:.2} |",
+                row.name,
+                row.with / 1_000_000.0,
+                row.against,
+                row.without / 1_000_000.0,
+                row.without / row.with
             )?;
         }
 

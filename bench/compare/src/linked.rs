@@ -24,9 +24,9 @@ use std::time::Instant;
 pub(crate) struct Left {
     pub(crate) answer: Answer,
     pub(crate) output: Vec<u8>,
-    book: Vec<u64>,
+    pub(crate) book: Vec<u64>,
     pub(crate) store: Vec<Level>,
-    letters: Vec<u16>,
+    pub(crate) letters: Vec<u16>,
 }
 
 impl Left {
