@@ -20,7 +20,7 @@ same-length-2 c = search needs
 
 returns : tie.Need-returns
 returns c =
-    let made = c .before .before .before .before .before .make-card .ensures in
+    let made = c .before .before .before .before .before .before .make-card .ensures in
     (laid-says countValue (made .answerIs) (c .lay-written .ensures), made .outputIs)
 
 pub venticapro-make-card-spec : {M : Type 1} → statement M
