@@ -3,20 +3,21 @@
 use mathlib.Core.Path.{_≡_, refl, sym, ap, _∙_}
 use mathlib.Core.Bool.{Bool, true, false}
 use mathlib.Core.List.{List, [], _∷_, _++_}
-use Prim.Native.Nat.{ℕ, _+_, _-_, _≤_, _<_}
+use Prim.Native.Nat.{ℕ, _+_, _≤_, _<_}
+use native.Mathlib.Nat.{zero-add}
+use native.Mathlib.Numerals.{add-one}
 use native.Mathlib.Omega.{arith}
-use lib.ListN.{length, getD, take, drop}
-use lib.Seq.{ext-getD, getD-take, length-take-le}
+use lib.ListN.{length, getD, set, take, drop}
+use lib.Seq.{ext-getD, getD-take, length-take-le, paste, paste-suc}
 use borrow.Author.Tests.{lt-ltb, le-ltb, eqb-true}
-use Rattle.meaning.specs.Answers.{Answer, given, refused, _giving_, _=?_, if_then_else_}
-use Rattle.meaning.specs.RuleFile.{Rule, IsRule, Move, noMove, to, none, asMove, ruleOf, checkRule}
+use Rattle.meaning.specs.Answers.{Answer, given, refused, _giving_, _=?_, _<?_, if_then_else_}
+use Rattle.meaning.specs.RuleFile.{Rule, IsRule, Move, noMove, to, none, asMove, isState, isMove, ruleOf, checkRule}
 use Rattle.meaning.specs.Cards.{readFrom, byteOf, tabled, cardOf, cardMove, makeCard, cardAfter, blockCheck}
 use Rattle.meaning.proofs.laws.Answered.{refuse-stops, refuse-passes, giving-passes, giving-stops, andThen-passes, andThen-stops}
-use Rattle.meaning.proofs.laws.Truths.{by-cases}
+use Rattle.meaning.proofs.laws.Truths.{by-cases, or-true}
 use Rattle.meaning.proofs.laws.Bools.{listed-at, listed-length}
 use Rattle.rule.specs.Says.{RuleOf, writtenSays}
 use Rattle.rule.specs.Checks.{outcomeSays}
-use Rattle.rule.specs.Laid.{laid}
 use Rattle.rule.specs.declared.Rule as numbers
 use Rattle.rule.specs.declared.Written.{Written}
 use Rattle.rule.specs.declared.check.Outcome.{Outcome}
@@ -101,12 +102,21 @@ module _ (file block output : List ℕ) (room : ℕ) where
         let bytes = bytes-are-card (ruleOf file) block card few (within .long) leads in
         ap (λ l. l ++ drop (rule .states) output) (ap (λ n. take n card) (sym same) ∙ bytes)
 
--- a part from the front on, copied to the front
-pub laid-part : (card output : List ℕ) (count : ℕ) → count ≤ length card
-    → laid 0 (take (count - 0) (drop 0 card)) output ≡ take count card ++ drop count output
-unfolding laid
-laid-part card output count fits =
-    let whole : count - 0 ≡ count = omega arith in
-    let size : length (take count card) ≡ count = length-take-le count card fits in
-    let past : 0 + length (take count card) ≡ count = omega arith in
-    rw (whole, past)
+-- ---- laying the card
+
+-- a byte that is in range and no state is none
+pub no-state : (b n : ℕ) → isMove n b ≡ true → n ≤ b → none ≡ b
+unfolding isMove isState
+no-state b n within over = sym (eqb-true b none (or-true (b <? n) (b =? none) within (le-ltb b n over)))
+
+-- one byte more
+pub byte-laid : (card output : List ℕ) (i b : ℕ) → i < length card → i < length output → b ≡ getD card i 0
+    → set (paste output 0 card i) i b ≡ paste output 0 card (i + 1)
+byte-laid card output i b inside room is =
+    ap (set (paste output 0 card i) i) is
+    ∙ (ap (λ (k : ℕ). set (paste output 0 card i) k (getD card i 0)) (sym (zero-add i))
+    ∙ (paste-suc output 0 card i 0 (omega arith) inside ∙ ap (paste output 0 card) (sym (add-one i))))
+
+-- all of it
+pub card-pasted : (card output : List ℕ) (count : ℕ) → paste output 0 card count ≡ take count card ++ drop count output
+card-pasted card output count = rw zero-add

@@ -23,7 +23,7 @@ use Rattle.rule.specs.declared.tables.Move as tables
 use Rattle.rule.specs.declared.tables.Table.the-variants.{LetterMoves, TreeMoves}
 use Rattle.rule.proofs.Looks.{getD-inside}
 use Rattle.book.proofs.Walked.{states-are, letters-are, letter-is, tree-is}
-use Rattle.card.specs.Pass.{CardIn, MovesTo, CardMoved, MovedUpto}
+use Rattle.card.specs.Pass.{CardIn, MovesTo, CardMoved, Nowhere, MovedUpto}
 
 -- ---- bytes and moves
 
@@ -88,6 +88,26 @@ module _ {file : List ℕ} {rule : numbers.Rule} (of : RuleOf file rule) where
 pub at-byte : (card : List ℕ) (q : ℕ) → length card ≡ 64 → q < 64 → cardMove card q ≡ asMove (getD card q 0)
 unfolding cardMove
 at-byte card q long low = ap asMove (getD-inside card q none 0 (omega arith))
+
+-- with none inside, no state of the card goes on
+tree-of-none : (R : Rule) (m : Move) → (m onward λ u. asMove none onward λ p. treeMove R u p) ≡ noMove
+unfolding _onward_ asMove if_then_else_
+tree-of-none R noMove = refl
+tree-of-none R (to u) = refl
+
+none-is : asMove none ≡ noMove
+unfolding asMove if_then_else_
+none-is = refl
+
+pub moved-nowhere : {R : Rule} → R .states ≤ 64 → (before after : List ℕ) (lower : ℕ) → lower ≡ none → Nowhere after
+    → CardMoved R (λ u. asMove lower onward λ p. treeMove R u p) before after
+moved-nowhere {R} few before after lower is gone =
+    record {
+      cardIn = record { long = gone .long; each = λ q h. rw (gone .each q (omega arith)) (none-in (R .states)) };
+      moved = λ q h. at-byte after q (gone .long) (omega arith)
+          ∙ (ap asMove (gone .each q (omega arith))
+          ∙ (none-is ∙ sym (rw is (tree-of-none R (cardMove before q)))));
+    }
 
 module _ {R : Rule} (few : R .states ≤ 64) {next : ℕ → Move} {before : List ℕ} (first : CardIn R before) where
   pub moved-none : MovedUpto R next before before 0

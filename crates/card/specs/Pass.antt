@@ -6,7 +6,7 @@ use mathlib.Core.Bool.{true}
 use mathlib.Core.List.{List, [], _∷_, _++_}
 use lib.ListN.{length, getD}
 use Rattle.meaning.specs.Answers.{Answer, refused}
-use Rattle.meaning.specs.RuleFile.{Rule, Move, asMove, isMove}
+use Rattle.meaning.specs.RuleFile.{Rule, Move, none, asMove, isMove}
 use Rattle.meaning.specs.FullReading.{eventOf}
 use Rattle.meaning.specs.Cards.{_onward_, readFrom, cardMove, blockEvent}
 
@@ -65,6 +65,11 @@ pub record MovesTo (R : Rule) (move : Move) (byte : ℕ) : Type 0 where
 pub record CardMoved (R : Rule) (next : ℕ → Move) (before after : List ℕ) : Type 0 where
   pub cardIn : CardIn R after
   pub moved : (q : ℕ) → q < R .states → cardMove after q ≡ (cardMove before q onward next)
+
+-- a card on which no state leads anywhere
+pub record Nowhere (card : List ℕ) : Type 0 where
+  pub long : length card ≡ 64
+  pub each : (q : ℕ) → q < 64 → getD card q 0 ≡ none
 
 -- the first so many of them are moved on, and the others are as they were
 pub record MovedUpto (R : Rule) (next : ℕ → Move) (before after : List ℕ) (count : ℕ) : Type 0 where

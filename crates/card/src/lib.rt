@@ -15,12 +15,13 @@ use rule::Checked;
 use rule::Rule;
 use rule::Written;
 use rule::check::Outcome;
-use rule::writer::copy_body;
 use turning::advancing::top_place;
 ghost use mathlib.Core.Path.{_≡_};
+ghost use mathlib.Core.Bool.{true};
 ghost use mathlib.Core.List.{_++_};
-ghost use Prim.Native.Nat.{_≤_};
-ghost use lib.ListN.{length, take, drop};
+ghost use Prim.Native.Nat.{ℕ, _≤_, _<_};
+ghost use lib.ListN.{length, getD, take, drop};
+ghost use Rattle.meaning.specs.RuleFile.{isMove};
 ghost use Rattle.meaning.specs.Cards.{makeCard, cardLaid, takeCard};
 ghost use Rattle.rule.specs.Says.{RuleOf};
 ghost use Rattle.card.specs.Making.{Unmoved, CardIs};
@@ -45,12 +46,28 @@ fn unmoved() -> [u8; 64]
     card
 }
 
-// The first so many bytes of a card, laid at the front of the output. The bytes past them stay.
-fn lay_card(output: &mut [u8], card: &[u8], count: usize)
-    requires { ⌜ (count ≤ length (now card)) × (count ≤ length (now output)) ⌝ }
-    ensures { λ r. ⌜ now (output .exit) ≡ take count (now (card .entry)) ++ drop count (now (output .entry)) ⌝ }
+// The byte of a card: a state, or none.
+fn card_byte(byte: u8, states: u8) -> u8
+    ensures { λ r. ⌜ (isMove states byte ≡ true → r ≡ byte) ⌝ }
 {
-    copy_body(output, &card[0..count]);
+    if byte < states {
+        return byte;
+    }
+    Rule::NONE
+}
+
+// A card, laid at the front of the output. The bytes past it stay. Each byte goes by way of `card_byte`, which leaves it as it is:
+// a plain copy is compiled to a call of memcpy, which the archive that a host links is not to need.
+fn lay_card(output: &mut [u8], card: &[u8], states: u8)
+    requires { ⌜ states ≤ length (now card) ⌝ ∗ ⌜ states ≤ length (now output) ⌝ ∗ ⌜ ((q : ℕ) → q < states → isMove states (getD (now card) q 0) ≡ true) ⌝ }
+    ensures { λ r. ⌜ now (output .exit) ≡ take states (now (card .entry)) ++ drop states (now (output .entry)) ⌝ }
+{
+    let mut state: u8 = 0;
+    while state < states {
+        let place = state as usize;
+        output[place] = card_byte(card[place], states);
+        state += 1;
+    }
 }
 
 // The card of a block is made in its own room and written last.
@@ -75,7 +92,7 @@ fn make_checked(
     match follow_block(file, rule, &mut card, room, block) {
         Outcome::Refused(refusal) => Written::Refused(refusal),
         Outcome::Passes => {
-            lay_card(output, &card, count);
+            lay_card(output, &card, rule.states);
             Written::Bytes(count)
         }
     }

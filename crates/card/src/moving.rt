@@ -9,7 +9,7 @@ ghost use Rattle.meaning.specs.RuleFile.{ruleOf, asMove, isMove, letterMove, tr
 ghost use Rattle.meaning.specs.Cards.{_onward_, byteOf};
 ghost use Rattle.rule.specs.Says.{RuleOf};
 ghost use Rattle.rule.specs.Tables.{moveSays};
-ghost use Rattle.card.specs.Pass.{CardIn, MovesTo, CardMoved};
+ghost use Rattle.card.specs.Pass.{CardIn, MovesTo, CardMoved, Nowhere};
 
 // The byte of a move: the state that it leads to, or none.
 fn byte_of(found: Move) -> u8
@@ -60,11 +60,24 @@ pub fn card_letter(file: &[u8], rule: Rule, card: &mut [u8; 64], a: u16)
     }
 }
 
-// A tree at the block's own level, which ended in a byte: every byte of the card by its tree move with that one.
+// A card on which no state leads anywhere.
+fn nowhere() -> [u8; 64]
+    ensures { λ r. ⌜ Nowhere r ⌝ }
+{
+    [Rule::NONE; 64]
+}
+
+// A tree at the block's own level, which ended in a byte: every byte of the card by its tree move with that one. Where that one
+// is none, all 64 bytes are written at once: a count that is known is compiled to stores, and another to a call of memset, which
+// the archive that a host links is not to need.
 pub fn card_tree(file: &[u8], rule: Rule, card: &mut [u8; 64], lower: u8)
     requires { ⌜ RuleOf (now file) rule ⌝ ∗ ⌜ CardIn (ruleOf (now file)) (now card) ⌝ ∗ ⌜ isMove (rule .states) lower ≡ true ⌝ }
     ensures { λ r. ⌜ CardMoved (ruleOf (now (file .entry))) (λ u. asMove lower onward λ p. treeMove (ruleOf (now (file .entry))) u p) (now (card .entry)) (now (card .exit)) ⌝ }
 {
+    if lower == Rule::NONE {
+        *card = nowhere();
+        return;
+    }
     let states = rule.states;
     let mut state: u8 = 0;
     while state < states {

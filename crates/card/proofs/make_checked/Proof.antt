@@ -9,7 +9,7 @@ use Rattle.meaning.specs.RuleFile.{ruleOf}
 use Rattle.meaning.specs.Calls.{refusalSays}
 use Rattle.rule.specs.Says.{writtenSays}
 use Rattle.rule.specs.Checks.{outcomeSays}
-use Rattle.book.proofs.Walked.{few-states}
+use Rattle.book.proofs.Walked.{states-are, few-states}
 use Rattle.card.specs.Pass.{CardIn}
 use Rattle.card.proofs.Made.{card-refused, card-laid, too-short, block-bad, block-good, laid-is}
 use borrow.Author.Needs.{needs}
@@ -52,7 +52,8 @@ slice-aggregate-lay-card c = sym (within c .long)
 lay-card-requires : tie.Need-lay-card-requires
 lay-card-requires c κs =
     let s = c .before .before .before .before .before .before .before .before .before .before .before .before .before .before .before .before in
-    (omega (arith, within c .long, few-states (s .pre)), c .before .before .before .before .before .before .before .before .before .before .if1 .left)
+    let same = states-are (s .pre) in
+    (omega (arith, within c .long, few-states (s .pre)), (c .before .before .before .before .before .before .before .before .before .before .if1 .left, λ q h. let fits = within c .each q (omega (arith, same)) in rw same at fits))
 
 same-length : tie.Need-same-length
 same-length c = search needs

@@ -7,7 +7,8 @@ use Rattle.meaning.specs.RuleFile.{ruleOf, asMove, letterMove, treeMove}
 use Rattle.meaning.specs.Cards.{_onward_}
 use Rattle.book.proofs.Walked.{states-are, few-states}
 use Rattle.card.specs.Pass.{MovedUpto}
-use Rattle.card.proofs.Moves.{moved-none, moved-next, moved-all}
+use borrow.Author.Needs.{needs}
+use Rattle.card.proofs.Moves.{moved-nowhere, moved-none, moved-next, moved-all}
 use Rattle.card.proofs.moving.card_tree.Statement.{statement}
 use Rattle.card.proofs.moving.card_tree.Tie as tie
 
@@ -22,25 +23,34 @@ abbrev μ-loop : tie.MeasureT-loop
 few : (s : tie.Start Inv-loop μ-loop) → ruleOf (now (s .args .file)) .states ≤ 64
 few s = omega (arith, few-states (s .pre .0), states-are (s .pre .0))
 
+nowhere-requires : tie.Need-nowhere-requires Inv-loop μ-loop
+nowhere-requires c κs = search needs
+
+-- a tree that ended in none
+returns : tie.Need-returns Inv-loop μ-loop
+returns c =
+    let s = c .before .before .before in
+    moved-nowhere (few s) (now (s .args .card)) (c .nowhere .result) (s .args .lower) (c .before .if1 .taken) (c .nowhere .ensures)
+
 loop-holds : tie.Need-loop-holds Inv-loop μ-loop
-loop-holds c = (omega arith, moved-none (few (c .before)) (c .before .pre .1 .0))
+loop-holds c = (omega arith, moved-none (few (c .before .before)) (c .before .before .pre .1 .0))
 
 cast-place : tie.Need-cast-place Inv-loop μ-loop
 cast-place c = omega arith
 
 element-copy-out-tree-byte : tie.Need-element-copy-out-tree-byte Inv-loop μ-loop
-element-copy-out-tree-byte c = omega (arith, few-states (c .before .before .before .pre .0))
+element-copy-out-tree-byte c = omega (arith, few-states (c .before .before .before .before .pre .0))
 
 tree-byte-requires : tie.Need-tree-byte-requires Inv-loop μ-loop
 tree-byte-requires c κs =
-    let s = c .before .before .before .before in
+    let s = c .before .before .before .before .before in
     let loop = c .before .before .loop in
     let same = states-are (s .pre .0) in
     let within = loop .inv .1 .cardIn .each (loop .state) (omega (arith, same)) in
     (s .pre .0, (rw same at within, s .pre .1 .1))
 
 element-write-card : tie.Need-element-write-card Inv-loop μ-loop
-element-write-card c = omega (arith, few-states (c .before .before .before .before .before .pre .0))
+element-write-card c = omega (arith, few-states (c .before .before .before .before .before .before .pre .0))
 
 add-state : tie.Need-add-state Inv-loop μ-loop
 add-state c = omega arith
@@ -50,14 +60,14 @@ loop-less c = omega arith
 
 loop-again : tie.Need-loop-again Inv-loop μ-loop
 loop-again c =
-    let s = c .before .before .before .before .before in
+    let s = c .before .before .before .before .before .before in
     let loop = c .before .before .before .loop in
     let low : loop .state < 64 = omega (arith, few-states (s .pre .0)) in
     (omega arith, moved-next (few s) (s .pre .1 .0) (loop .card) (loop .state) _ low (loop .inv .1) (c .tree-byte .ensures))
 
-returns : tie.Need-returns Inv-loop μ-loop
-returns c =
-    let s = c .before .before .before in
+returns-2 : tie.Need-returns-2 Inv-loop μ-loop
+returns-2 c =
+    let s = c .before .before .before .before in
     let loop = c .before .loop in
     moved-all (few s) (s .pre .1 .0) (loop .card) (loop .state) (omega (arith, states-are (s .pre .0))) (loop .inv .1)
 
@@ -67,6 +77,8 @@ card-tree-spec =
     (tie.spec
     Inv-loop
     μ-loop
+    nowhere-requires
+    returns
     loop-holds
     cast-place
     element-copy-out-tree-byte
@@ -75,4 +87,4 @@ card-tree-spec =
     add-state
     loop-less
     loop-again
-    returns)
+    returns-2)
