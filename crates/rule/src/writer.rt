@@ -43,7 +43,7 @@ fn header(output: &mut [u8], place: usize, kind: u16, size: usize)
 }
 
 // A body, copied to the front of what is left of the output.
-pub fn copy_body(output: &mut [u8], body: &[u8])
+fn copy_body(output: &mut [u8], body: &[u8])
     requires { ⌜ length (now body) ≤ length (now output) ⌝ }
     ensures { λ r. ⌜ now (output .exit) ≡ laid 0 (now (body .entry)) (now (output .entry)) ⌝ }
 {
