@@ -27,7 +27,8 @@
  *
  * Stack and time. A call needs at most VENTICAPRO_STACK bytes of stack, its parameters counted, and an inline function its
  * answer of 128 bytes and its own parameters beside that. A call's time grows with the events that it is lent, and every call
- * but the writer begins with the rule check, whose time grows with the rule file. */
+ * but the writer begins with the rule check, whose time grows with the rule file. Opening takes longest: open a rule once, and
+ * read many documents by its book. */
 #ifndef VENTICAPRO_H
 #define VENTICAPRO_H
 

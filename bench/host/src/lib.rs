@@ -1,4 +1,5 @@
 //! The proved calls as the second reading's types have them: `hosts/rust` links them, and has all unsafe code.
+#![forbid(unsafe_code)]
 
 use reader::{Level, Reading};
 use venticapro::calls;
