@@ -93,6 +93,15 @@ TREE_CHAIN = rule(64, 0, 0, 1,
                    for u in range(64)],
                   [q % 3 for q in range(64)])
 
+# Letter 0 leads backwards along 31, 32, 30, 33, .., 62, 0, from 0 to 31, so that a
+# sweep in either direction meets one state; letter 1 stays. A tree that ends in 31
+# leads to 63, which leads nowhere, and any other tree back.
+TURNS = [31 + (i + 1) // 2 * (1 if i % 2 else -1) for i in range(63)]
+TURNING_CHAIN = rule(64, 0, TURNS[62], 2,
+                     [[TURNS[max(TURNS.index(q) - 1, 0)] if q < 63 else q, q] for q in range(64)],
+                     [[63 if p == 31 else u for p in range(64)] for u in range(64)],
+                     [q % 3 for q in range(64)])
+
 LARGEST_RULE = rule(64, 0, 0, 256,
                     [[(q + a) % 64 for a in range(256)] for q in range(64)],
                     [[(u + p) % 64 for p in range(64)] for u in range(64)],
@@ -218,6 +227,8 @@ def document_cases():
         yield name, MET_LATER + events(numbers)
     for name, numbers in [("tree-chain", chained(6)), ("tree-chain-no-move", chained(6) + [0, 1])]:
         yield name, TREE_CHAIN + events(numbers)
+    for name, letters in [("turning-chain", 62), ("turning-chain-short-of-its-end", 61)]:
+        yield name, TURNING_CHAIN + events(tree([2] * letters + [3]) + tree([3]) + [2])
 
 
 def long_cases():

@@ -12,7 +12,7 @@ mod report;
 mod timing;
 
 use host::{Store, ANSWER};
-use reader::{stream, Fed, Level, Outcome, Reading, Rule};
+use reader::{stream, Fed, Level, Outcome, Reading, Rule, NO_LETTER};
 use report::{Call, Full, Passing, Report};
 use std::process::ExitCode;
 use timing::least;
@@ -70,14 +70,15 @@ fn feed_linked(
 ) -> Fed {
     let mut answer = [0; ANSWER];
     assert!(host::feed(file, book, LARGEST, first, store, events, &mut answer));
-    let [number, place, took, state, depth, skip, taken, looks] = answer;
+    let [number, place, took, state, depth, skip, taken, looks, first] = answer;
     let counts = [depth, skip, taken, looks].map(|count| count as u32);
     let [depth, skip, taken, looks] = counts;
     let outcome = match number {
         0 => Outcome::AllTaken,
         _ => Outcome::Refused(reader::Refusal::new(number as u8, place)),
     };
-    let reading = Reading { state: state as u8, depth, skip, taken, looks };
+    let (state, first) = (state as u8, first as u16);
+    let reading = Reading { state, depth, skip, taken, looks, first };
     Fed { took: took as usize, reading, outcome }
 }
 
@@ -206,7 +207,7 @@ fn single_calls() -> Vec<Call> {
         let [linked, words, marks] = &mut books;
         assert!(host::open(&file, linked, &mut answer));
         let (still, state) = (opening.still as u64, opening.reading.state as u64);
-        assert_eq!(answer, [0, 0, still, state, 0, 0, 0, 0]);
+        assert_eq!(answer, [0, 0, still, state, 0, 0, 0, 0, NO_LETTER as u64]);
         assert_eq!(plain::open_by_words(&file, words), Ok(opening));
         assert_eq!(plain::open_by_marks(&file, marks), Ok(opening));
         assert!([&*linked, words, marks].iter().all(|book| **book == expected));

@@ -7,7 +7,7 @@
 //! for full reading is measured against it. [`read_in_full`] has less to do and is
 //! there for information.
 
-use reader::{Fed, Level, Opening, Outcome, Reading, Refusal};
+use reader::{Fed, Level, Opening, Outcome, Reading, Refusal, NO_LETTER};
 
 /// A rule in flat tables.
 pub struct Table {
@@ -123,7 +123,7 @@ pub fn feed(
     if !is_reading(&table, book, &reading, store) {
         return refused(0, reading, 13, 0);
     }
-    let Reading { mut state, mut depth, mut skip, mut taken, mut looks } = reading;
+    let Reading { mut state, mut depth, mut skip, mut taken, mut looks, mut first } = reading;
     let before = taken;
     let mut outcome = Outcome::AllTaken;
     for &event in events {
@@ -172,19 +172,27 @@ pub fn feed(
             }
             match event {
                 OPEN => {
-                    store[depth as usize] = Level { state, place: taken };
+                    store[depth as usize] = Level { state, first: NO_LETTER, place: taken };
                     depth += 1;
                 }
                 CLOSE => depth -= 1,
-                _ => {}
+                _ => name(&mut first, store, depth as usize, event - 2),
             }
             state = to;
             looks += 1;
         }
         taken += 1;
     }
-    let reading = Reading { state, depth, skip, taken, looks };
+    let reading = Reading { state, depth, skip, taken, looks, first };
     Fed { took: (taken - before) as usize, reading, outcome }
+}
+
+/// Only a level's first letter replaces the mark.
+fn name(first: &mut u16, store: &mut [Level], depth: usize, letter: u16) {
+    let first = if depth > 0 { &mut store[depth - 1].first } else { first };
+    if *first == NO_LETTER {
+        *first = letter;
+    }
 }
 
 /// The number of a missing move, by the event that wants it.
@@ -198,10 +206,12 @@ fn missing(event: u16) -> u8 {
 
 fn is_reading(table: &Table, book: &[u64], reading: &Reading, store: &[Level]) -> bool {
     let depth = reading.depth as usize;
-    if reading.state as usize >= table.n || depth > store.len() {
+    let is_first = |first: u16| first == NO_LETTER || (first as usize) < table.k;
+    if reading.state as usize >= table.n || !is_first(reading.first) || depth > store.len() {
         return false;
     }
-    if store[..depth].iter().any(|level| level.state as usize >= table.n) {
+    let is_level = |level: &Level| (level.state as usize) < table.n && is_first(level.first);
+    if !store[..depth].iter().all(is_level) {
         return false;
     }
     let held = depth > 0 && bit(book[1 + store[depth - 1].state as usize], reading.state);
@@ -215,20 +225,21 @@ fn is_reading(table: &Table, book: &[u64], reading: &Reading, store: &[Level]) -
 /// Full reading alone, from the first event and with no book in sight: what one
 /// would write who never skips.
 pub fn read_in_full(file: &[u8], store: &mut [Level], events: &[u16]) -> Fed {
-    let fed = |took, state, depth, outcome| Fed {
-        took,
-        reading: Reading { state, depth, skip: 0, taken: took as u32, looks: took as u32 },
-        outcome,
+    let fed = |took, state, depth, first, outcome| {
+        let (taken, looks) = (took as u32, took as u32);
+        Fed { took, reading: Reading { state, depth, skip: 0, taken, looks, first }, outcome }
     };
     let table = match Table::from_file(file) {
         Ok(table) => table,
-        Err(refusal) => return fed(0, 0, 0, Outcome::Refused(refusal)),
+        Err(refusal) => return fed(0, 0, 0, NO_LETTER, Outcome::Refused(refusal)),
     };
     let mut state = table.initial;
     let mut depth = 0;
+    let mut first = NO_LETTER;
     for (took, &event) in events.iter().enumerate() {
         let refused = |number| {
-            fed(took, state, depth as u32, Outcome::Refused(Refusal::new(number, took as u64)))
+            let refusal = Refusal::new(number, took as u64);
+            fed(took, state, depth as u32, first, Outcome::Refused(refusal))
         };
         if event as usize >= table.k + 2 {
             return refused(10);
@@ -245,15 +256,15 @@ pub fn read_in_full(file: &[u8], store: &mut [Level], events: &[u16]) -> Fed {
         }
         match event {
             OPEN => {
-                store[depth] = Level { state, place: took as u32 };
+                store[depth] = Level { state, first: NO_LETTER, place: took as u32 };
                 depth += 1;
             }
             CLOSE => depth -= 1,
-            _ => {}
+            _ => name(&mut first, store, depth, event - 2),
         }
         state = to;
     }
-    fed(events.len(), state, depth as u32, Outcome::AllTaken)
+    fed(events.len(), state, depth as u32, first, Outcome::AllTaken)
 }
 
 /// The states in which a tree can end, with a mark for each: a state that is met
@@ -277,7 +288,8 @@ fn tree_ends(table: &Table) -> Vec<bool> {
 
 /// What opening gives: the fresh reading and the still count.
 fn opening(table: &Table, still: u32) -> Opening {
-    let reading = Reading { state: table.initial, depth: 0, skip: 0, taken: 0, looks: 0 };
+    let state = table.initial;
+    let reading = Reading { state, depth: 0, skip: 0, taken: 0, looks: 0, first: NO_LETTER };
     Opening { reading, still }
 }
 

@@ -7,12 +7,13 @@
 //! too.
 
 use crate::disagreements;
-use crate::tally::{Can, Tally, FEED, FINISH, OPEN, RULE, WHOLE, WRITER};
+use crate::tally::{Can, Tally, FEED, FINISH, OPEN, PATH, RULE, WHOLE, WRITER};
 use generate::calls::{random_call, random_writing, Call, Writing};
 use generate::damage::damaged;
 use generate::rules::random_rule;
 use generate::{Inputs, Prng};
 use host::{Store, Tables, ANSWER};
+use reader::calls::DEFAULT_CEILING;
 use reader::check::take_apart;
 use reader::{End, Fed, Level, Opening, Outcome, Reading, Refusal, Rule};
 use std::fmt::Debug;
@@ -26,6 +27,7 @@ struct Left {
     output: Vec<u8>,
     book: Vec<u64>,
     store: Vec<Level>,
+    letters: Vec<u16>,
 }
 
 impl Left {
@@ -51,7 +53,8 @@ fn numbers<T>(answer: Result<T, Refusal>, values: impl Fn(T) -> Vec<u64>) -> Vec
 
 fn reading_values(reading: Reading) -> Vec<u64> {
     let counts = [reading.depth, reading.skip, reading.taken, reading.looks];
-    [vec![reading.state as u64], counts.map(u64::from).to_vec()].concat()
+    [vec![reading.state as u64], counts.map(u64::from).to_vec(), vec![reading.first as u64]]
+        .concat()
 }
 
 fn opening_values(opening: Opening) -> Vec<u64> {
@@ -139,7 +142,8 @@ impl Comparison<'_> {
         if answer[0] == 0 {
             let (first, events) = (reading_of(&answer), &call.events);
             answer = held;
-            host::feed(file, &book_after, u32::MAX, first, &mut lent, events, &mut answer);
+            let ceiling = DEFAULT_CEILING;
+            host::feed(file, &book_after, ceiling, first, &mut lent, events, &mut answer);
             if answer[0] == 0 {
                 let last = reading_of(&answer);
                 answer = held;
@@ -185,14 +189,36 @@ impl Comparison<'_> {
         self.same("writer", WRITER, &(writing, output, held), expected, found)
     }
 
-    /// Feeding, and finishing what it was given and what it left.
-    fn feed_and_finish(&mut self, call: &Call, held: &[u64]) -> Result<(), String> {
+    /// The path to where a reading stands, into letters that may be too few.
+    fn path(
+        &mut self,
+        call: &Call,
+        reading: Reading,
+        store: &[Level],
+        lent: &[u16],
+        held: &[u64],
+    ) -> Result<(), String> {
+        let (file, book) = (&call.rule_file, &call.book);
+        let mut letters = lent.to_vec();
+        let traced = reader::path(file, book, reading, store, &mut letters);
+        let by = Left::by(numbers(traced, |count| vec![count as u64]), held);
+        let expected = Left { store: store.to_vec(), letters, ..by };
+        let (levels, mut letters, mut answer) = (Store::new(store), lent.to_vec(), held.to_vec());
+        let fitted = host::path(file, book, reading, &levels, &mut letters, &mut answer);
+        let found = Left { fitted, answer, store: levels.levels(), letters, ..Left::default() };
+        self.same("path", PATH, &(file, book, reading, store, lent, held), expected, found)
+    }
+
+    /// Feeding, finishing what it was given and what it left, and the path to either.
+    fn feed_and_finish(&mut self, call: &Call, lent: &[u16], held: &[u64]) -> Result<(), String> {
         let (fed, store) = feed_second(call);
         let expected = Left { store: store.clone(), ..Left::by(fed_numbers(fed), held) };
         let found = feed_linked(call, call.reading, &call.store, &call.events, held);
         self.same("feed", FEED, &(call, held), expected, found)?;
         self.finish(call, call.reading, &call.store, held)?;
-        self.finish(call, fed.reading, &store, held)
+        self.finish(call, fed.reading, &store, held)?;
+        self.path(call, call.reading, &call.store, lent, held)?;
+        self.path(call, fed.reading, &store, lent, held)
     }
 
     fn finish(
@@ -249,7 +275,8 @@ impl Comparison<'_> {
         let mut rng = Prng::new(self.seed, self.index);
         let call = random_call(&mut rng);
         let held = random_held(&mut rng);
-        self.feed_and_finish(&call, &held)?;
+        let lent = random_letters(&mut rng);
+        self.feed_and_finish(&call, &lent, &held)?;
         self.split_feeds(&call, &random_parts(&mut rng, &call.events))?;
         let book = random_words(&mut rng, call.book.len());
         self.open(&call.rule_file, &book, &held)?;
@@ -285,7 +312,7 @@ impl Comparison<'_> {
                 events: parts.events,
                 ceiling: u32::MAX,
             };
-            self.feed_and_finish(&call, &[0; ANSWER])?;
+            self.feed_and_finish(&call, &[0; 1025], &[0; ANSWER])?;
             self.read_document(&call, &call.book, &[0; ANSWER])?;
             self.calls_in_turn(&call, &call.book)?;
         }
@@ -330,6 +357,7 @@ fn reading_of(answer: &[u64]) -> Reading {
         skip: answer[5] as u32,
         taken: answer[6] as u32,
         looks: answer[7] as u32,
+        first: answer[8] as u16,
     }
 }
 
@@ -353,6 +381,12 @@ fn random_parts<'a>(rng: &mut Prng, events: &'a [u16]) -> Vec<&'a [u16]> {
 fn random_held(rng: &mut Prng) -> Vec<u64> {
     let length = if rng.chance(90) { rng.between(ANSWER, 11) } else { rng.below(ANSWER) };
     random_words(rng, length)
+}
+
+/// What a slice lent for letters holds before a call; too short at times.
+fn random_letters(rng: &mut Prng) -> Vec<u16> {
+    let length = rng.weighted(&[(10, 0), (10, 1), (15, 2), (15, 4), (50, 2200)]);
+    (0..length).map(|_| rng.word() as u16).collect()
 }
 
 fn random_words(rng: &mut Prng, count: usize) -> Vec<u64> {

@@ -6,7 +6,7 @@ use crate::events::random_events;
 use crate::inputs::join;
 use crate::prng::Prng;
 use crate::rules::random_rule;
-use reader::{feed, Book, Level, Reading, Rule};
+use reader::{feed, Book, Level, Reading, Rule, NO_LETTER};
 
 /// The arguments of a feed, and of the finish after it.
 #[derive(Clone, Debug)]
@@ -48,10 +48,11 @@ pub fn random_call(rng: &mut Prng) -> Call {
         events.truncate(2000);
     }
     let levels = rng.weighted(&[(10, 0), (10, 1), (15, 2), (15, 4), (50, 2100)]);
-    let mut store: Vec<Level> = (0..levels).map(|_| random_level(rng, rule.n)).collect();
+    let mut store: Vec<Level> = (0..levels).map(|_| random_level(rng, &rule)).collect();
     let mut rule_file = rule.to_file();
 
-    let fresh = Reading { state: rule.initial as u8, depth: 0, skip: 0, taken: 0, looks: 0 };
+    let state = rule.initial as u8;
+    let fresh = Reading { state, depth: 0, skip: 0, taken: 0, looks: 0, first: NO_LETTER };
     let reading = match rng.below(10) {
         0..=3 => fresh,
         4..=6 => {
@@ -74,9 +75,19 @@ pub fn random_call(rng: &mut Prng) -> Call {
     Call { rule_file, book, reading, store, events, ceiling }
 }
 
-fn random_level(rng: &mut Prng, n: usize) -> Level {
-    let state = if rng.chance(97) { rng.below(n) as u8 } else { rng.below(256) as u8 };
-    Level { state, place: rng.word() as u32 }
+fn random_level(rng: &mut Prng, rule: &Rule) -> Level {
+    let state = if rng.chance(97) { rng.below(rule.n) as u8 } else { rng.below(256) as u8 };
+    let first = if rng.chance(97) { random_first(rng, rule.k) } else { rng.word() as u16 };
+    Level { state, first, place: rng.word() as u32 }
+}
+
+/// A letter of the rule, or the mark.
+fn random_first(rng: &mut Prng, k: usize) -> u16 {
+    if rng.chance(50) {
+        NO_LETTER
+    } else {
+        rng.below(k) as u16
+    }
 }
 
 /// The rule's own book, one of zeros, one with bits changed, or any words at all;
@@ -119,6 +130,7 @@ fn random_reading(rng: &mut Prng, rule: &Rule, book: &[u64], store: &mut [Level]
     if rng.chance(85) {
         for level in &mut store[..depth] {
             level.state = rng.below(rule.n) as u8;
+            level.first = random_first(rng, rule.k);
         }
     }
     let mut state = rng.below(rule.n) as u8;
@@ -144,14 +156,16 @@ fn random_reading(rng: &mut Prng, rule: &Rule, book: &[u64], store: &mut [Level]
         _ => nesting.saturating_add(rng.below(1000) as u32),
     };
     let looks = rng.word() as u32 % taken.saturating_add(1).max(1);
-    let mut reading = Reading { state, depth: depth as u32, skip, taken, looks };
+    let first = random_first(rng, rule.k);
+    let mut reading = Reading { state, depth: depth as u32, skip, taken, looks, first };
     if rng.chance(18) {
-        match rng.below(6) {
+        match rng.below(7) {
             0 => reading.state = rng.pick(&[rule.n as u8, 64, 255]),
             1 => reading.depth = store.len() as u32 + rng.pick(&[0, 1, 9]),
             2 => reading.skip = rng.pick(&[1, 2, u32::MAX]),
             3 => reading.taken = nesting.saturating_sub(1),
             4 => reading.looks = reading.taken.saturating_add(1),
+            5 => reading.first = rng.pick(&[rule.k as u16, 256, 65_534]),
             _ => reading.skip = reading.taken.saturating_sub(reading.depth).saturating_add(1),
         }
     }

@@ -1,11 +1,11 @@
 //! The generated arguments of single calls find the mistakes that are easy to make.
 //!
-//! Feed and finish once more, small and with a mistake built in on demand: without
+//! Feed, finish and the path once more, small and with a mistake built in on demand: without
 //! one they must agree on every call, with one the random calls have to show it.
 
 use generate::calls::{random_call, Call};
 use generate::Prng;
-use reader::{End, Fed, Level, Outcome, Reading, Refusal, Rule};
+use reader::{End, Fed, Level, Outcome, Reading, Refusal, Rule, NO_LETTER};
 
 #[derive(Clone, Copy, Debug, PartialEq)]
 enum Mistake {
@@ -21,6 +21,9 @@ enum Mistake {
     NestingWrapsAround,
     LooksNotTested,
     StatesPastTheDepthTested,
+    TopLetterNotTested,
+    StoredLettersNotTested,
+    MarkRefused,
     // At an event.
     LimitAfterTheUnknownEvent,
     LimitOnlyAtLooks,
@@ -40,16 +43,26 @@ enum Mistake {
     PlaceFromThisFeed,
     RefusedEventCounted,
     SkipDepthForgotten,
+    LastLetterKept,
+    LetterOfTheLevelAbove,
+    MarkNotSetByAnOpen,
+    SkippedLetterKept,
+    RefusedLetterKept,
     // At the end.
     SkipDepthLeftOpen,
     OpeningOfTheOutermostLevel,
     EventsTakenAsPlace,
     EndNotTested,
+    // On the path.
+    PathFromTheInside,
+    PathWithoutTheTop,
+    PathNeedsOneMore,
+    PathLaidThoughRefused,
 }
 
 use Mistake::*;
 
-const ALL: [Mistake; 32] = [
+const ALL: [Mistake; 44] = [
     NotAReadingBeforeTheBook,
     BookOfNWordsIsEnough,
     StateNotTested,
@@ -60,6 +73,9 @@ const ALL: [Mistake; 32] = [
     NestingWrapsAround,
     LooksNotTested,
     StatesPastTheDepthTested,
+    TopLetterNotTested,
+    StoredLettersNotTested,
+    MarkRefused,
     LimitAfterTheUnknownEvent,
     LimitOnlyAtLooks,
     LimitOneEventEarly,
@@ -78,10 +94,19 @@ const ALL: [Mistake; 32] = [
     PlaceFromThisFeed,
     RefusedEventCounted,
     SkipDepthForgotten,
+    LastLetterKept,
+    LetterOfTheLevelAbove,
+    MarkNotSetByAnOpen,
+    SkippedLetterKept,
+    RefusedLetterKept,
     SkipDepthLeftOpen,
     OpeningOfTheOutermostLevel,
     EventsTakenAsPlace,
     EndNotTested,
+    PathFromTheInside,
+    PathWithoutTheTop,
+    PathNeedsOneMore,
+    PathLaidThoughRefused,
 ];
 
 /// Whether the level with this state, below this upper state, is in hold; and
@@ -97,9 +122,17 @@ fn upper(store: &[Level], depth: u32) -> Option<u8> {
     depth.checked_sub(1).and_then(|top| store.get(top as usize)).map(|level| level.state)
 }
 
-fn is_reading(call: &Call, reading: Reading, store: &[Level], n: usize, mistake: Mistake) -> bool {
-    let Reading { state, depth, skip, taken, looks } = reading;
-    let is_state = |state: u8| (state as usize) < n;
+fn is_reading(
+    call: &Call,
+    reading: Reading,
+    store: &[Level],
+    rule: &Rule,
+    mistake: Mistake,
+) -> bool {
+    let Reading { state, depth, skip, taken, looks, first } = reading;
+    let is_state = |state: u8| (state as usize) < rule.n;
+    let is_first =
+        |first: u16| (first as usize) < rule.k || (first == NO_LETTER && mistake != MarkRefused);
     let open = if mistake == StatesPastTheDepthTested {
         store
     } else {
@@ -116,6 +149,8 @@ fn is_reading(call: &Call, reading: Reading, store: &[Level], n: usize, mistake:
         && (skip == 0 || settled || mistake == SkipDepthNotTested)
         && (nesting <= taken as u64 || mistake == NestingNotTested)
         && (looks <= taken || mistake == LooksNotTested)
+        && (is_first(first) || mistake == TopLetterNotTested)
+        && (open.iter().all(|level| is_first(level.first)) || mistake == StoredLettersNotTested)
 }
 
 /// What feed and finish ask first.
@@ -123,7 +158,7 @@ fn admit(call: &Call, now: Reading, store: &[Level], mistake: Mistake) -> Result
     let rule = Rule::from_file(&call.rule_file)?;
     let words = if mistake == BookOfNWordsIsEnough { rule.n } else { rule.n + 1 };
     let short = call.book.len() < words;
-    let no_reading = !is_reading(call, now, store, rule.n, mistake);
+    let no_reading = !is_reading(call, now, store, &rule, mistake);
     if short && !(no_reading && mistake == NotAReadingBeforeTheBook) {
         return Err(Refusal::new(6, 0));
     }
@@ -194,7 +229,7 @@ fn take(
         match event {
             0 => {
                 if mistake == RecordWrittenWhileSkipping && at < store.len() {
-                    store[at] = Level { state: now.state, place };
+                    store[at] = Level { state: now.state, first: NO_LETTER, place };
                 }
                 now.skip = now.skip.wrapping_add(1);
             }
@@ -203,6 +238,7 @@ fn take(
                 now.state = above.expect("a level is open");
                 now.depth -= 1;
             }
+            _ if mistake == SkippedLetterKept => name(now, store, event - 2, mistake),
             _ => {}
         }
         now.taken = now.taken.wrapping_add(1);
@@ -232,7 +268,10 @@ fn take(
         return Err(8);
     }
     if mistake == RecordWrittenThoughRefused && event == 0 {
-        store[at] = Level { state: now.state, place };
+        store[at] = Level { state: now.state, first: NO_LETTER, place };
+    }
+    if mistake == RefusedLetterKept && event > 1 {
+        name(now, store, event - 2, mistake);
     }
     if mistake == CeilingAfterTheMove && target.is_none() {
         return Err(missing);
@@ -248,7 +287,8 @@ fn take(
                 PlaceFromThisFeed => place - call.reading.taken,
                 _ => place,
             };
-            store[at] = Level { state: now.state, place };
+            let first = if mistake == MarkNotSetByAnOpen { store[at].first } else { NO_LETTER };
+            store[at] = Level { state: now.state, first, place };
             now.depth += 1;
         }
         1 => {
@@ -257,12 +297,51 @@ fn take(
                 store[at - 1] = Level::default();
             }
         }
-        _ => {}
+        _ => name(now, store, event - 2, mistake),
     }
     now.state = target as u8;
     now.looks = now.looks.wrapping_add(1);
     now.taken = now.taken.wrapping_add(1);
     Ok(())
+}
+
+/// A letter is kept where its level has none.
+fn name(now: &mut Reading, store: &mut [Level], letter: u16, mistake: Mistake) {
+    let level = now.depth as usize - (mistake == LetterOfTheLevelAbove && now.depth > 0) as usize;
+    let first = match level.checked_sub(1).and_then(|at| store.get_mut(at)) {
+        Some(record) => &mut record.first,
+        None => &mut now.first,
+    };
+    if *first == NO_LETTER || mistake == LastLetterKept {
+        *first = letter;
+    }
+}
+
+fn path(
+    call: &Call,
+    reading: Reading,
+    store: &[Level],
+    letters: &mut [u16],
+    mistake: Mistake,
+) -> Result<usize, Refusal> {
+    admit(call, reading, store, mistake)?;
+    let open = store.get(..reading.depth as usize).unwrap_or(store);
+    let mut way: Vec<u16> = open.iter().map(|level| level.first).collect();
+    if mistake != PathWithoutTheTop {
+        way.insert(0, reading.first);
+    }
+    if mistake == PathFromTheInside {
+        way.reverse();
+    }
+    let short = letters.len() < way.len() + (mistake == PathNeedsOneMore) as usize;
+    if !short || mistake == PathLaidThoughRefused {
+        letters.iter_mut().zip(&way).for_each(|(letter, &first)| *letter = first);
+    }
+    if short {
+        Err(Refusal::new(14, way.len() as u64))
+    } else {
+        Ok(way.len())
+    }
 }
 
 fn finish(call: &Call, reading: Reading, store: &[Level], mistake: Mistake) -> End {
@@ -297,9 +376,17 @@ fn agrees(call: &Call, mistake: Mistake) -> bool {
     let end = |reading, store: &[Level]| {
         finish(call, reading, store, mistake) == reader::finish(file, book, reading, store)
     };
+    let way = |reading, store: &[Level], room: usize| {
+        let (mut letters, mut second) = (vec![7; room], vec![7; room]);
+        path(call, reading, store, &mut letters, mistake)
+            == reader::path(file, book, reading, store, &mut second)
+            && letters == second
+    };
     feed(call, mistake) == (fed, store.clone())
         && end(call.reading, &call.store)
         && end(fed.reading, &store)
+        && way(call.reading, &call.store, 3)
+        && way(fed.reading, &store, fed.reading.depth as usize + 1)
 }
 
 /// Calls of no great length, so that a thousand times thirty take seconds.

@@ -32,6 +32,12 @@ enum Mistake {
     TreeStartNotInItsSet,
     StateGoneThroughOnce,
     LowerStatesOfTheInitialState,
+    // In hold, swept backwards.
+    SweptFromNoneOrU,
+    SweptOverLettersAlone,
+    OneSweepOnly,
+    LastStateNotVisited,
+    HoldOfTheNextState,
     // In skipping.
     StillSkipsItsClosingLook,
     HoldOfTheLevelTwoAbove,
@@ -53,7 +59,7 @@ enum Mistake {
 
 use Mistake::*;
 
-const ALL: [Mistake; 33] = [
+const ALL: [Mistake; 38] = [
     LengthBeforeKind,
     BodyCutBeforeLength,
     OddLengthAfterTheBody,
@@ -73,6 +79,11 @@ const ALL: [Mistake; 33] = [
     TreeStartNotInItsSet,
     StateGoneThroughOnce,
     LowerStatesOfTheInitialState,
+    SweptFromNoneOrU,
+    SweptOverLettersAlone,
+    OneSweepOnly,
+    LastStateNotVisited,
+    HoldOfTheNextState,
     StillSkipsItsClosingLook,
     HoldOfTheLevelTwoAbove,
     TopHeldByItsOwnState,
@@ -194,6 +205,30 @@ fn lowers(rule: &Rule, mistake: Mistake) -> BTreeSet<usize> {
     }
 }
 
+/// hold(u) as a word, worked out backwards: from the lower states whose tree move
+/// with u exists and is not u, over the moves, and then the states never met.
+fn swept_hold(rule: &Rule, lowers: &BTreeSet<usize>, u: usize, mistake: Mistake) -> u64 {
+    let starts = |low: &usize| match rule.tree_moves[u][*low] {
+        None => mistake == SweptFromNoneOrU,
+        Some(target) => (target == u) == (mistake == SweptFromNoneOrU),
+    };
+    let visited = rule.n - (mistake == LastStateNotVisited) as usize;
+    let mut met: BTreeSet<usize> = (0..rule.n).filter(starts).collect();
+    loop {
+        let before = met.len();
+        for q in 0..visited {
+            let trees = lowers.iter().map(|&low| &rule.tree_moves[q][low]);
+            let trees = trees.filter(|_| mistake != SweptOverLettersAlone);
+            if rule.letter_moves[q].iter().chain(trees).flatten().any(|to| met.contains(to)) {
+                met.insert(q);
+            }
+        }
+        if met.len() == before || mistake == OneSweepOnly {
+            return (0..rule.n).filter(|p| !met.contains(p)).map(|p| 1 << p).sum();
+        }
+    }
+}
+
 fn book(rule: &Rule, mistake: Mistake) -> Vec<u64> {
     let lowers = lowers(rule, mistake);
     let step = |q: usize, trees: bool| -> BTreeSet<usize> {
@@ -225,6 +260,13 @@ fn book(rule: &Rule, mistake: Mistake) -> Vec<u64> {
             let held = reach[p].iter().all(|&low| keeps(low));
             words[1 + u] |= (held as u64) << p;
         }
+    }
+    match mistake {
+        Nothing | SweptFromNoneOrU | SweptOverLettersAlone | OneSweepOnly | LastStateNotVisited => {
+            (0..rule.n).for_each(|u| words[1 + u] = swept_hold(rule, &lowers, u, mistake));
+        }
+        HoldOfTheNextState => words[1..].rotate_left(1),
+        _ => {}
     }
     words
 }

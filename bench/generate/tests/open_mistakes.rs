@@ -7,7 +7,7 @@
 use generate::damage::damaged;
 use generate::rules::random_rule;
 use generate::Prng;
-use reader::{open, Book, Opening, Reading, Refusal, Rule};
+use reader::{open, Book, Opening, Reading, Refusal, Rule, NO_LETTER};
 
 #[derive(Clone, Copy, Debug, PartialEq)]
 enum Mistake {
@@ -22,11 +22,12 @@ enum Mistake {
     BookOfNWordsIsEnough,
     BookBeforeTheRule,
     EventsTakenAtTheStart,
+    LetterZeroAtTheStart,
 }
 
 use Mistake::*;
 
-const ALL: [Mistake; 10] = [
+const ALL: [Mistake; 11] = [
     BookForgotten,
     StateZero,
     TreeStartForTheInitialState,
@@ -37,6 +38,7 @@ const ALL: [Mistake; 10] = [
     BookOfNWordsIsEnough,
     BookBeforeTheRule,
     EventsTakenAtTheStart,
+    LetterZeroAtTheStart,
 ];
 
 fn mistaken(mistake: Mistake, file: &[u8], book: &mut [u64]) -> Result<Opening, Refusal> {
@@ -68,7 +70,8 @@ fn mistaken(mistake: Mistake, file: &[u8], book: &mut [u64]) -> Result<Opening, 
         _ => words[0].count_ones(),
     };
     let taken = (mistake == EventsTakenAtTheStart) as u32;
-    let reading = Reading { state: state as u8, depth: 0, skip: 0, taken, looks: 0 };
+    let first = if mistake == LetterZeroAtTheStart { 0 } else { NO_LETTER };
+    let reading = Reading { state: state as u8, depth: 0, skip: 0, taken, looks: 0, first };
     Ok(Opening { reading, still })
 }
 

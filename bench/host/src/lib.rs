@@ -10,10 +10,10 @@
 
 mod store;
 
-pub use store::{feed, finish, read_document, Store};
+pub use store::{feed, finish, path, read_document, Store};
 
 /// Room enough for the answer of every call.
-pub const ANSWER: usize = 8;
+pub const ANSWER: usize = 9;
 
 /// The numbers and tables that the writer is given.
 #[derive(Clone, Copy, Debug)]

@@ -3,12 +3,13 @@
 
 use reader::{Level, Reading};
 
-/// One record as the calls have it: the state above the level, and the place of its
-/// opening.
+/// One record as the calls have it: the state above the level, its first letter,
+/// and the place of its opening.
 #[repr(C)]
 #[derive(Clone, Copy, Debug)]
 struct Record {
     above: u8,
+    first: u16,
     opened: u32,
 }
 
@@ -20,12 +21,18 @@ pub struct Store {
 
 impl Store {
     pub fn new(levels: &[Level]) -> Store {
-        let record = |level: &Level| Record { above: level.state, opened: level.place };
+        let record = |level: &Level| {
+            let Level { state, first, place } = *level;
+            Record { above: state, first, opened: place }
+        };
         Store { records: levels.iter().map(record).collect() }
     }
 
     pub fn levels(&self) -> Vec<Level> {
-        let level = |record: &Record| Level { state: record.above, place: record.opened };
+        let level = |record: &Record| {
+            let Record { above, first, opened } = *record;
+            Level { state: above, first, place: opened }
+        };
         self.records.iter().map(level).collect()
     }
 }
@@ -45,6 +52,7 @@ mod exported {
             skip: u32,
             taken: u32,
             looks: u32,
+            first: u16,
             levels: *mut Record,
             levels_length: usize,
             events: *const u16,
@@ -63,8 +71,28 @@ mod exported {
             skip: u32,
             taken: u32,
             looks: u32,
+            first: u16,
             levels: *const Record,
             levels_length: usize,
+            answer: *mut u64,
+            answer_length: usize,
+        ) -> bool;
+
+        pub fn venticapro_path(
+            file: *const u8,
+            file_length: usize,
+            book: *const u64,
+            book_length: usize,
+            state: u8,
+            depth: u32,
+            skip: u32,
+            taken: u32,
+            looks: u32,
+            first: u16,
+            levels: *const Record,
+            levels_length: usize,
+            letters: *mut u16,
+            letters_length: usize,
             answer: *mut u64,
             answer_length: usize,
         ) -> bool;
@@ -107,6 +135,7 @@ pub fn feed(
             reading.skip,
             reading.taken,
             reading.looks,
+            reading.first,
             store.records.as_mut_ptr(),
             store.records.len(),
             events.as_ptr(),
@@ -137,8 +166,41 @@ pub fn finish(
             reading.skip,
             reading.taken,
             reading.looks,
+            reading.first,
             store.records.as_ptr(),
             store.records.len(),
+            answer.as_mut_ptr(),
+            answer.len(),
+        )
+    }
+}
+
+/// The path to where a reading stands, into `letters`. Value: how many they are.
+pub fn path(
+    file: &[u8],
+    book: &[u64],
+    reading: Reading,
+    store: &Store,
+    letters: &mut [u16],
+    answer: &mut [u64],
+) -> bool {
+    // SAFETY: see the head of the crate.
+    unsafe {
+        exported::venticapro_path(
+            file.as_ptr(),
+            file.len(),
+            book.as_ptr(),
+            book.len(),
+            reading.state,
+            reading.depth,
+            reading.skip,
+            reading.taken,
+            reading.looks,
+            reading.first,
+            store.records.as_ptr(),
+            store.records.len(),
+            letters.as_mut_ptr(),
+            letters.len(),
             answer.as_mut_ptr(),
             answer.len(),
         )

@@ -3,24 +3,23 @@
 use crate::book::Book;
 use crate::hedge::feed;
 use crate::numbers::{self, Refusal};
-use crate::reading::{admit, End, Fed, Level, Outcome, Reading, Report};
+use crate::reading::{admit, End, Fed, Level, Outcome, Reading, Report, NO_LETTER};
 use crate::rule::Rule;
 
 /// A way of feeding: [`crate::hedge::feed`] is one, [`crate::stream::feed`] the
 /// other.
 pub type Feed = fn(&[u8], &[u64], Reading, &mut [Level], &[u16], u32) -> Fed;
 
-/// What opening gives: a reading with the initial state and four zeros, and how
-/// many states are still.
+/// What opening gives: a reading with the initial state, four zeros and the mark,
+/// and how many states are still.
 #[derive(Clone, Copy, Debug, PartialEq, Eq)]
 pub struct Opening {
     pub reading: Reading,
     pub still: u32,
 }
 
-/// Opening: fills the book. In turn: rule, 6, 15 (never given, see
-/// [`numbers::ROUNDS`]). Words past n+1 stay; a refused call leaves the book
-/// untouched.
+/// Opening: fills the book. In turn: rule, 6. Words past n+1 stay; a refused call
+/// leaves the book untouched.
 pub fn open(rule_file: &[u8], book: &mut [u64]) -> Result<Opening, Refusal> {
     let rule = Rule::from_file(rule_file)?;
     if book.len() < rule.n + 1 {
@@ -28,7 +27,8 @@ pub fn open(rule_file: &[u8], book: &mut [u64]) -> Result<Opening, Refusal> {
     }
     let sets = Book::of(&rule);
     book.iter_mut().zip(sets.words()).for_each(|(place, word)| *place = word);
-    let reading = Reading { state: rule.initial as u8, depth: 0, skip: 0, taken: 0, looks: 0 };
+    let state = rule.initial as u8;
+    let reading = Reading { state, depth: 0, skip: 0, taken: 0, looks: 0, first: NO_LETTER };
     Ok(Opening { reading, still: sets.still.len() as u32 })
 }
 
@@ -49,14 +49,37 @@ pub fn finish(rule_file: &[u8], book: &[u64], reading: Reading, store: &[Level])
     End::Verdict(rule.classes[reading.state as usize], reading.state)
 }
 
-/// The whole-document call: opens, feeds and finishes with ceiling 4,294,967,295;
-/// it answers as those calls in turn and leaves what they leave.
+/// The path: the first letters from the top to the innermost stored level, marks
+/// included, into the front of `letters`, and how many they are. In turn: rule, 6,
+/// 13, then 14 with the count needed as its place; then nothing is laid.
+pub fn path(
+    rule_file: &[u8],
+    book: &[u64],
+    reading: Reading,
+    store: &[Level],
+    letters: &mut [u16],
+) -> Result<usize, Refusal> {
+    admit(rule_file, book, &reading, store)?;
+    let levels = store[..reading.depth as usize].iter().map(|level| level.first);
+    let way: Vec<u16> = std::iter::once(reading.first).chain(levels).collect();
+    match letters.get_mut(..way.len()) {
+        Some(front) => front.copy_from_slice(&way),
+        None => return Err(Refusal::new(numbers::OUTPUT_SHORT, way.len() as u64)),
+    }
+    Ok(way.len())
+}
+
+/// The ceiling of the whole-document call.
+pub const DEFAULT_CEILING: u32 = 1_000_000;
+
+/// The whole-document call: opens, feeds and finishes with its own ceiling; it
+/// answers as those calls in turn and leaves what they leave.
 pub fn whole(rule_file: &[u8], book: &mut [u64], store: &mut [Level], events: &[u16]) -> End {
     let reading = match open(rule_file, book) {
         Ok(opening) => opening.reading,
         Err(refusal) => return End::Refused(refusal),
     };
-    let fed = feed(rule_file, book, reading, store, events, u32::MAX);
+    let fed = feed(rule_file, book, reading, store, events, DEFAULT_CEILING);
     match fed.outcome {
         Outcome::Refused(refusal) => End::Refused(refusal),
         Outcome::AllTaken => finish(rule_file, book, fed.reading, store),

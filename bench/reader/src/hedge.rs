@@ -9,7 +9,7 @@
 
 use crate::numbers::{self, Refusal};
 use crate::reading::{
-    admit, in_hold, settled, Fed, Level, Outcome, Reading, CLOSE, FIRST_LETTER, OPEN,
+    admit, in_hold, settled, Fed, Level, Outcome, Reading, CLOSE, FIRST_LETTER, NO_LETTER, OPEN,
 };
 use crate::rule::Rule;
 
@@ -121,7 +121,28 @@ struct Frame {
     tree: usize,
     /// The next of the things inside that tree.
     next: usize,
+    /// How many of the things inside were evaluated; the others are to come, or
+    /// were jumped over.
+    evaluated: usize,
     state: u8,
+    /// The letter that the level had before the first event, or the mark.
+    first: u16,
+}
+
+impl Frame {
+    /// The first letter of the level: the one it had, or else the first of the
+    /// letters that were evaluated on it.
+    fn first_letter(&self, hedge: &Hedge) -> u16 {
+        if self.first != NO_LETTER {
+            return self.first;
+        }
+        let evaluated = &hedge.tree(self.tree).inside[..self.evaluated];
+        let letters = evaluated.iter().filter_map(|&node| match hedge.nodes[node] {
+            Node::Letter { letter, .. } => Some(letter as u16),
+            Node::Tree(_) => None,
+        });
+        letters.into_iter().next().unwrap_or(NO_LETTER)
+    }
 }
 
 /// Feeding. A refused event changes nothing, and the earlier ones stay taken;
@@ -149,13 +170,18 @@ pub fn feed(
         .map(|i| Frame {
             tree: hedge.already_open[i],
             next: if i < depth { 1 } else { 0 },
+            evaluated: if i < depth { 1 } else { 0 },
             state: if i < depth { store[i].state } else { reading.state },
+            first: if i > 0 { store[i - 1].first } else { reading.first },
         })
         .collect();
 
     let mut looks = reading.looks;
     let refused = evaluate(&rule, book, &hedge, &mut frames, &mut looks, store, ceiling);
 
+    for (record, frame) in store.iter_mut().zip(&frames[1..]) {
+        record.first = frame.first_letter(&hedge);
+    }
     let depth = frames.len() as u64 - 1;
     let (taken, skip, number) = match refused {
         Some((number, place)) => (place, 0, Some(number)),
@@ -167,6 +193,7 @@ pub fn feed(
         skip: skip as u32,
         taken,
         looks,
+        first: frames[0].first_letter(&hedge),
     };
     Fed {
         took: (taken - reading.taken) as usize,
@@ -221,7 +248,8 @@ fn evaluate(
                     Err(refused) => return Some(refused),
                 }
             };
-            frames.pop();
+            let ended = frames.pop().expect("the level that ends");
+            store[depth - 1].first = ended.first_letter(hedge);
             frames[depth - 1].state = state;
             continue;
         };
@@ -234,6 +262,7 @@ fn evaluate(
                     Err(refused) => return Some(refused),
                 }
                 frame.next += 1;
+                frame.evaluated = frame.next;
             }
             Node::Tree(below) => {
                 if depth >= store.len() {
@@ -243,9 +272,10 @@ fn evaluate(
                     Ok(state) => state,
                     Err(refused) => return Some(refused),
                 };
-                store[depth] = Level { state: frame.state, place: below.opened };
+                store[depth] = Level { state: frame.state, first: NO_LETTER, place: below.opened };
                 frame.next += 1;
-                frames.push(Frame { tree: inner, next: 0, state });
+                frame.evaluated = frame.next;
+                frames.push(Frame { tree: inner, next: 0, evaluated: 0, state, first: NO_LETTER });
             }
         }
     }

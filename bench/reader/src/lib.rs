@@ -29,10 +29,10 @@ pub mod stream;
 pub mod writer;
 
 pub use book::Book;
-pub use calls::{finish, open, whole, Opening};
+pub use calls::{finish, open, path, whole, Opening};
 pub use check::check_program;
 pub use hedge::feed;
 pub use numbers::Refusal;
-pub use reading::{End, Fed, Level, Outcome, Reading, Report, Verdict};
+pub use reading::{End, Fed, Level, Outcome, Reading, Report, Verdict, NO_LETTER};
 pub use rule::{Class, Rule};
 pub use writer::write_rule;

@@ -11,7 +11,10 @@ pub const CLOSE: u16 = 1;
 /// Event 2+a is letter a for a below k.
 pub const FIRST_LETTER: u16 = 2;
 
-/// A reading. A fresh one has the initial state and four zeros.
+/// The mark of a level that has no letter yet.
+pub const NO_LETTER: u16 = 65_535;
+
+/// A reading. A fresh one has the initial state, four zeros and the mark.
 #[derive(Clone, Copy, Debug, PartialEq, Eq)]
 pub struct Reading {
     pub state: u8,
@@ -23,13 +26,16 @@ pub struct Reading {
     pub taken: u32,
     /// The looks made.
     pub looks: u32,
+    /// The first letter of the top level, or the mark.
+    pub first: u16,
 }
 
-/// One record of the level store: the state above the level and the place of
-/// its opening.
+/// One record of the level store: the state above the level, its first letter or
+/// the mark, and the place of its opening.
 #[derive(Clone, Copy, Debug, Default, PartialEq, Eq)]
 pub struct Level {
     pub state: u8,
+    pub first: u16,
     pub place: u32,
 }
 
@@ -109,15 +115,16 @@ pub(crate) fn settled(book: &[u64], upper: Option<u8>, state: u8) -> bool {
     in_still(book, state) || upper.is_some_and(|u| in_hold(book, u, state))
 }
 
-/// Number 13, its six conditions.
+/// Number 13, its conditions.
 fn is_a_reading(rule: &Rule, book: &[u64], reading: &Reading, store: &[Level]) -> bool {
     let is_state = |byte: u8| (byte as usize) < rule.n;
+    let is_first = |letter: u16| letter == NO_LETTER || (letter as usize) < rule.k;
     let depth = reading.depth as usize;
-    if !is_state(reading.state) || depth > store.len() {
+    if !is_state(reading.state) || !is_first(reading.first) || depth > store.len() {
         return false;
     }
     let open = &store[..depth];
-    if !open.iter().all(|level| is_state(level.state)) {
+    if !open.iter().all(|level| is_state(level.state) && is_first(level.first)) {
         return false;
     }
     let upper = open.last().map(|level| level.state);
@@ -128,7 +135,7 @@ fn is_a_reading(rule: &Rule, book: &[u64], reading: &Reading, store: &[Level]) -
     nesting <= reading.taken as u64 && reading.looks <= reading.taken
 }
 
-/// What feed and finish ask first: rule, 6, 13.
+/// What feed, finish and the path ask first: rule, 6, 13.
 pub(crate) fn admit(
     rule_file: &[u8],
     book: &[u64],

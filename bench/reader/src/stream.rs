@@ -2,7 +2,7 @@
 
 use crate::numbers::{self, Refusal};
 use crate::reading::{
-    admit, in_hold, settled, Fed, Level, Outcome, Reading, CLOSE, FIRST_LETTER, OPEN,
+    admit, in_hold, settled, Fed, Level, Outcome, Reading, CLOSE, FIRST_LETTER, NO_LETTER, OPEN,
 };
 use crate::rule::Rule;
 
@@ -96,11 +96,17 @@ fn step(
     };
     let target = target.ok_or(missing)?;
     if event == OPEN {
-        store[depth] = Level { state: now.state, place: now.taken };
+        store[depth] = Level { state: now.state, first: NO_LETTER, place: now.taken };
         after.depth += 1;
     }
     if event == CLOSE {
         after.depth -= 1;
+    }
+    if event >= FIRST_LETTER {
+        let first = if depth > 0 { &mut store[depth - 1].first } else { &mut after.first };
+        if *first == NO_LETTER {
+            *first = event - FIRST_LETTER;
+        }
     }
     after.state = target as u8;
     after.looks += 1;

@@ -98,7 +98,7 @@ fn books() {
     assert_eq!(book_of(&no_start), [3, 2, 2]);
     assert_eq!(book_of(&met_later().to_file()), [4, 4, 0, 7]);
     let mut book = [99; 6];
-    let reading = Reading { state: 0, depth: 0, skip: 0, taken: 0, looks: 0 };
+    let reading = Reading { state: 0, depth: 0, skip: 0, taken: 0, looks: 0, first: NO_LETTER };
     assert_eq!(open(&RULE_A, &mut book), Ok(Opening { reading, still: 2 }));
     assert_eq!(book, [6, 4, 7, 7, 99, 99]);
     let mut short = [99; 3];
@@ -187,13 +187,14 @@ fn the_longest_file() {
 #[test]
 fn the_whole_document_call() {
     let mut book = [99; 5];
-    let mut store = [Level { state: 77, place: 7 }; 3];
+    let mut store = [Level { state: 77, first: 77, place: 7 }; 3];
     let end = whole(&RULE_A, &mut book, &mut store, &[0, 3, 2, 2, 1, 2]);
     assert_eq!(end, End::Verdict(Class::Accept, 2));
     assert_eq!(book, [6, 4, 7, 7, 99]);
-    // Only the open that was stored has written, and it is not cleared.
-    assert_eq!(store[0], Level { state: 0, place: 0 });
-    assert_eq!(store[1..], [Level { state: 77, place: 7 }; 2]);
+    // Only the open that was stored and the first letter in its tree have written,
+    // and nothing is cleared.
+    assert_eq!(store[0], Level { state: 0, first: 1, place: 0 });
+    assert_eq!(store[1..], [Level { state: 77, first: 77, place: 7 }; 2]);
 
     let end = whole(&RULE_A, &mut book[..3], &mut store, &[0]);
     assert_eq!(end, End::Refused(Refusal::new(6, 0)));

@@ -147,8 +147,9 @@ fn both_refuse(book: &[u64], reading: Reading, store: &[Level], expected: Refusa
 #[test]
 fn not_a_reading() {
     let book = [6, 4, 7, 7];
-    let good = Reading { state: 0, depth: 1, skip: 0, taken: 5, looks: 5 };
-    let store = [Level { state: 2, place: 4 }, Level { state: 200, place: 9 }];
+    let good = Reading { state: 0, depth: 1, skip: 0, taken: 5, looks: 5, first: NO_LETTER };
+    let store =
+        [Level { state: 2, first: 1, place: 4 }, Level { state: 200, first: NO_LETTER, place: 9 }];
     let not_a_reading = Refusal::new(13, 0);
     for bad in [
         Reading { state: 3, ..good },
@@ -160,6 +161,8 @@ fn not_a_reading() {
         Reading { skip: 5, ..good },
         Reading { skip: u32::MAX, ..good },
         Reading { looks: 6, ..good },
+        Reading { first: 2, ..good },
+        Reading { first: 65_534, ..good },
     ] {
         both_refuse(&book, bad, &store, not_a_reading);
     }
@@ -170,7 +173,7 @@ fn not_a_reading() {
     assert_eq!(finish(&RULE_A, &book, skipping, &store), End::Refused(Refusal::new(12, 4)));
     // Not with a book of zeros, and not above an upper state that does not hold it.
     both_refuse(&[0; 4], skipping, &store, not_a_reading);
-    both_refuse(&book, skipping, &[Level { state: 0, place: 0 }], not_a_reading);
+    both_refuse(&book, skipping, &[Level { state: 0, first: 0, place: 0 }], not_a_reading);
     // The book comes before it, the rule before the book.
     both_refuse(&book[..3], Reading { state: 3, ..good }, &store, Refusal::new(6, 0));
     assert_eq!(
@@ -193,7 +196,8 @@ fn one_event(book: &[u64], reading: Reading, levels: usize, event: u16, ceiling:
 fn each_event_in_turn() {
     let refused = |number, place| Outcome::Refused(Refusal::new(number, place));
     let zeros = [0; 4];
-    let at_top = Reading { state: 2, depth: 0, skip: 0, taken: u32::MAX, looks: 0 };
+    let at_top =
+        Reading { state: 2, depth: 0, skip: 0, taken: u32::MAX, looks: 0, first: NO_LETTER };
     // 16 before 10 and 7.
     assert_eq!(one_event(&zeros, at_top, 0, 4, 0), refused(16, u32::MAX as u64));
     assert_eq!(one_event(&zeros, at_top, 0, 1, 0), refused(16, u32::MAX as u64));
@@ -227,7 +231,7 @@ fn a_missing_move_comes_last() {
     // Rule C has no tree start, no tree move with lower state 0, and here no letter
     // move either.
     let rule = Rule { letter_moves: vec![vec![None]; 3], ..rule_c() }.to_file();
-    let outside = Reading { state: 0, depth: 0, skip: 0, taken: 5, looks: 3 };
+    let outside = Reading { state: 0, depth: 0, skip: 0, taken: 5, looks: 3, first: 0 };
     let inside = Reading { depth: 1, ..outside };
     for (reading, levels, event, ceiling, number) in [
         (outside, 0, 0, 9, 8),

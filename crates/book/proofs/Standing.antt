@@ -1,6 +1,6 @@
 -- Laws of words that stand for sets: the empty set, one member, the join of two, the join of one more, and the set without
 -- its lowest member. Each is a law of bits said of all 64.
-use mathlib.Core.Path.{_≡_, refl, sym, ap, ap₂, _∙_, subst}
+use mathlib.Core.Path.{_≡_, refl, sym, ap, ap₂, _∙_}
 use mathlib.Core.Logic.{⊎-elim}
 use mathlib.Core.Bool.{Bool, true, false, not, _&&_, _||_, false≢true, or-assoc}
 use mathlib.Core.List.{List}
@@ -8,9 +8,7 @@ use Prim.Native.Nat.{ℕ, _+_, _-_, _^_, _≤_, _<_}
 use native.Mathlib.Nat.{not-suc-le-zero}
 use native.Mathlib.Omega.{arith}
 use native.Mathlib.Numerals.{add-one}
-use lib.ListN.{length, getD, set, length-set, List·getD-eq-default}
-use lib.Seq.{getD-set-same, getD-set-other}
-use borrow.Author.Count.{below-none, below-more}
+use lib.ListN.{length, List·getD-eq-default}
 use lib.Bits.{bitAnd, bitOr}
 use lib.Count.{trailingZeros}
 use borrow.Author.Tests.{ltb-true, ltb-false, lt-ltb, eqb-true, eq-eqb}
@@ -20,7 +18,7 @@ use Rattle.meaning.proofs.laws.Answered.{and-true, both-true}
 use Rattle.meaning.proofs.laws.Truths.{truth, same-truth, true-is-not-false, or-cases, or-true-left, or-true-right}
 use Rattle.meaning.proofs.laws.Bools.{last-or-below, below-any, any-below, any-below-fails}
 use Rattle.meaning.proofs.skipbook.Bits.{bit-zero, bit-or, bit-and, bit-only, bit-past, word-of, lowest, cleared, cleared-less}
-use Rattle.book.specs.Sets.{StandsFor, StatesOf, joined, firstOf}
+use Rattle.book.specs.Sets.{StandsFor, StatesOf, firstOf}
 
 pub stands-empty : StandsFor 0 (λ p. false)
 unfolding StandsFor
@@ -169,34 +167,3 @@ module _ (has : ℕ → ℕ → Bool) (whole : ℕ → Bool) (all rest : ℕ) wh
   turn-last e t p h =
       sym (or-none (bit all p) (any-below-fails 64 _ (λ m l. ap (λ (w : ℕ). bit w m && has m p) e ∙ ap (λ (b : Bool). b && has m p) (bit-zero m))))
       ∙ t .same p h
-
--- the members of a set joined to it, with a table of what each has
-abbrev pub tableHas : List ℕ → ℕ → ℕ → Bool
-tableHas table m p = bit (getD table m 0) p
-
-pub table-first : (table : List ℕ) (set : ℕ) → set < 2 ^ 64 → Turn (tableHas table) (joined table set) set set
-unfolding joined
-table-first table set h = record { small = h; same = λ p l. refl }
-
-pub stands-itself : (w : ℕ) → StandsFor w (bit w)
-unfolding StandsFor
-stands-itself w p h = refl
-
--- ---- a table of 64 words that is filled from the front
-
-pub record Filled (P : ℕ → ℕ → Type 0) (i : ℕ) (table : List ℕ) : Type 0 where
-  pub long : length table ≡ 64
-  pub each : (q : ℕ) → q < i → P q (getD table q 0)
-
-pub filled-first : (P : ℕ → ℕ → Type 0) (table : List ℕ) → length table ≡ 64 → Filled P 0 table
-filled-first P table e = record { long = e; each = below-none (λ q. P q (getD table q 0)) }
-
-pub filled-next : (P : ℕ → ℕ → Type 0) (i w : ℕ) (table : List ℕ) → i < 64 → Filled P i table → P i w → Filled P (i + 1) (set table i w)
-filled-next P i w table h f here =
-    record {
-      long = length-set table i w ∙ f .long;
-      each =
-          below-more (λ q. P q (getD (set table i w) q 0)) i
-          (λ q l. subst (P q) (sym (getD-set-other table i q w 0 (λ e. omega arith))) (f .each q l))
-          (subst (P i) (sym (getD-set-same table i w 0 (rw (f .long) h))) here);
-    }

@@ -1,18 +1,20 @@
 -- The tables of an accepted file, walked: what each look finds is the rule's move, so the words that are joined stand for the
 -- states one move away.
 use mathlib.Core.Path.{_≡_, refl, sym, ap, ap₂, _∙_}
-use mathlib.Core.Bool.{Bool, not, _&&_, _||_}
+use mathlib.Core.Bool.{Bool, true, false, not, _&&_, _||_}
 use mathlib.Core.List.{List}
-use Prim.Native.Nat.{ℕ, _+_, _^_, _≤_, _<_}
+use Prim.Native.Nat.{ℕ, _+_, _-_, _^_, _≤_, _<_}
 use native.Mathlib.Omega.{arith}
-use lib.Bits.{bitOr}
+use lib.Bits.{bitAnd, bitOr}
+use lib.Count.{trailingZeros}
 use borrow.Author.Tests.{ne-eqb}
 use Rattle.meaning.specs.Answers.{_=?_}
 use Rattle.meaning.specs.RuleFile as format
 use Rattle.meaning.specs.RuleFile.{Move, none, asMove, letterMove, treeMove, treeStartMove, ruleOf}
 use Rattle.meaning.specs.SkipBook.{anyBelow, goesTo, noneOr, bit}
+use Rattle.meaning.proofs.skipbook.Reaching.{initial-below}
 use Rattle.meaning.proofs.skipbook.Rounds.{most-states}
-use Rattle.meaning.proofs.skipbook.Bits.{bit-zero}
+use Rattle.meaning.proofs.skipbook.Bits.{bit-zero, bit-past, cleared-less}
 use Rattle.meaning.proofs.rulefile.Accepted.{accepted-is-rule}
 use Rattle.rule.specs.declared.Rule.{Rule}
 use Rattle.rule.specs.Says.{numbersOf, RuleOf}
@@ -21,8 +23,10 @@ use Rattle.rule.specs.declared.tables.Move as tables
 use Rattle.rule.specs.declared.tables.Move.the-variants as found
 use Rattle.rule.specs.Tables.{letterByte, treeByte, moveSays, moveIn}
 use Rattle.rule.proofs.Looks.{found-is, letter-look, tree-look}
-use Rattle.book.specs.Sets.{StandsFor, StatesOf, stateOrNone, byLetters, byTrees, firstOf, changing}
-use Rattle.book.proofs.Standing.{stands-as, stands-only, stands-empty, stands-more, members-below, Turn}
+use Rattle.book.specs.Sets.{StandsFor, StatesOf, stateOrNone, byLetters, byTrees, leadsTo, treesInto, firstOf, changing}
+use Rattle.book.proofs.Standing.{stands-as, stands-only, stands-empty, stands-more, members-below, lowest-first, Turn}
+use Rattle.meaning.proofs.laws.Truths.{or-true-left}
+use Rattle.meaning.proofs.laws.Bools.{any-below-fails}
 
 -- ---- what a look finds, and the state that it leads to
 
@@ -36,6 +40,12 @@ target-some m w e = rw e (stands-as _ _ _ (λ p h. sym (goes-as m p h)) (stands-
 
 pub target-none : (m : tables.Move) → 64 ≤ stateOrNone m → StandsFor 0 (λ p. goesTo p (moveSays m))
 target-none m l = stands-as 0 _ _ (λ p h. sym (goes-as m p h ∙ ne-eqb (stateOrNone m) p (λ e. omega arith))) stands-empty
+
+-- where a look leads, a set has its bit or there is none
+pub leads-as : (set : ℕ) (m : tables.Move) → set < 2 ^ 64 → bit set (stateOrNone m) ≡ leadsTo set (moveSays m)
+unfolding leadsTo moveSays stateOrNone
+leads-as set (found.To q) small = refl
+leads-as set (found.NoneIn table) small = bit-past 64 set none small (omega arith)
 
 -- ---- the first i moves of a row
 
@@ -56,6 +66,39 @@ walk-next move i set w e s t =
 abbrev pub treeHas : format.Rule → ℕ → ℕ → ℕ → Bool
 treeHas R u m p = goesTo p (treeMove R u m)
 
+-- ---- the lower states that are left
+
+-- some lower state leads into a set exactly if one of those that are left does
+pub record TreesLeft (R : format.Rule) (lowers set u rest : ℕ) : Type 0 where
+  pub small : rest < 2 ^ 64
+  pub left : treesInto R lowers set u ≡ anyBelow 64 (λ m. bit rest m && leadsTo set (treeMove R u m))
+
+module _ (R : format.Rule) (lowers set u rest : ℕ) where
+  module _ (some : 0 < rest) (t : TreesLeft R lowers set u rest) where
+    here : Bool
+    here = leadsTo set (treeMove R u (trailingZeros 64 rest))
+
+    divided : treesInto R lowers set u ≡ (here || anyBelow 64 (λ m. bit (bitAnd rest (rest - 1)) m && leadsTo set (treeMove R u m)))
+    unfolding here
+    divided = t .left ∙ lowest-first rest some (t .small) (λ m. leadsTo set (treeMove R u m))
+
+    pub tree-leads : leadsTo set (treeMove R u (trailingZeros 64 rest)) ≡ true → treesInto R lowers set u ≡ true
+    unfolding here
+    tree-leads e = divided ∙ or-true-left _ e
+
+    pub tree-leads-not : leadsTo set (treeMove R u (trailingZeros 64 rest)) ≡ false → TreesLeft R lowers set u (bitAnd rest (rest - 1))
+    unfolding here
+    tree-leads-not e =
+        record {
+          small = omega (arith, cleared-less rest some, t .small);
+          left = divided ∙ ap (λ (b : Bool). b || anyBelow 64 (λ m. bit (bitAnd rest (rest - 1)) m && leadsTo set (treeMove R u m))) e;
+        }
+
+  pub no-trees-left : rest ≡ 0 → TreesLeft R lowers set u rest → false ≡ treesInto R lowers set u
+  no-trees-left e t =
+      sym (t .left ∙ any-below-fails 64 _ (λ m l. ap (λ (w : ℕ). bit w m && leadsTo set (treeMove R u m)) e
+      ∙ ap (λ (b : Bool). b && leadsTo set (treeMove R u m)) (bit-zero m)))
+
 -- ---- the moves of an accepted file
 
 module _ {file : List ℕ} {rule : Rule} (ok : RuleOf file rule) where
@@ -70,6 +113,10 @@ module _ {file : List ℕ} {rule : Rule} (ok : RuleOf file rule) where
   -- a rule has at most 64 states
   pub few-states : rule .states ≤ 64
   few-states = omega (arith, most-states (accepted-is-rule file (ok .accepted)), states-are)
+
+  -- and one at least
+  pub has-states : 0 < rule .states
+  has-states = omega (arith, initial-below (accepted-is-rule file (ok .accepted)), states-are)
 
   -- what was found among the letter moves, and among the tree moves
   pub letter-is : (q a : ℕ) {found : tables.Move} → found ≡ moveIn LetterMoves (letterByte file (rule .letters) q a)
@@ -114,6 +161,16 @@ module _ {file : List ℕ} {rule : Rule} (ok : RuleOf file rule) where
         same = λ p h. ap (λ (b : Bool). b || anyBelow 64 (λ m. bit lowers m && goesTo p (treeMove R u m))) (bit-zero p)
             ∙ members-below (rule .states) lowers (λ m. goesTo p (treeMove R u m)) few-states states
             ∙ ap (λ (n : ℕ). anyBelow n (λ m. bit lowers m && goesTo p (treeMove R u m))) (sym states-are);
+      }
+
+  -- whether they lead into a set, before the first
+  pub trees-left : (lowers set u : ℕ) → lowers < 2 ^ 64 → StatesOf (rule .states) lowers → TreesLeft (ruleOf file) lowers set u lowers
+  unfolding treesInto
+  trees-left lowers set u small states =
+      record {
+        small = small;
+        left = ap (λ (n : ℕ). anyBelow n (λ m. bit lowers m && leadsTo set (treeMove (ruleOf file) u m))) states-are
+            ∙ sym (members-below (rule .states) lowers (λ m. leadsTo set (treeMove (ruleOf file) u m)) few-states states);
       }
 
   -- what the look with a lower state finds leads where that lower state does

@@ -1,8 +1,9 @@
-// The making of skip books, a part of opening: it finds the states in which a tree can end and then Reach in rounds in its own
-// room, and writes the book last.
+// The making of skip books, a part of opening: it finds the states in which a tree can end, and then word by word what the book
+// holds. It keeps that set and one more.
+pub mod ends;
 pub mod moves;
-pub mod rounds;
 pub mod sets;
+mod sweeps;
 mod words;
 
 use meaning::Refusal;
@@ -19,10 +20,8 @@ pub enum Made {
     Refused(Refusal),
 }
 
-// The numbers of its refusals.
+// The number of its refusal.
 const BOOK_TOO_SHORT: u8 = 6;
-
-const ROUNDS_USED_UP: u8 = 15;
 
 // The book of an accepted rule. A refusal leaves what was lent untouched.
 pub fn make_book(file: &[u8], rule: Rule, book: &mut [u64]) -> Made
@@ -37,14 +36,6 @@ pub fn make_book(file: &[u8], rule: Rule, book: &mut [u64]) -> Made
             place: 0,
         });
     }
-    let ends = rounds::tree_ends(file, rule);
-    let moves = ends.moves;
-    let reach = rounds::reach_from_all(&moves, states);
-    if rounds::last_adds(&moves, ends.set, &reach, states) {
-        return Made::Refused(Refusal {
-            number: ROUNDS_USED_UP,
-            place: 0,
-        });
-    }
-    Made::Still(words::write_book(file, rule, &reach, book))
+    let lowers = ends::tree_ends(file, rule);
+    Made::Still(words::write_book(file, rule, lowers, book))
 }

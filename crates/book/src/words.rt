@@ -1,91 +1,63 @@
 // The words of the book: still, hold(u) for each state u, and how they are written.
 use crate::moves::changes;
-use crate::sets::no_sets;
+use crate::moves::leads_into;
+use crate::sets::first_states;
 use crate::sets::only;
 use crate::sets::with;
+use crate::sweeps::leading_to;
 use rule::Rule;
 ghost use mathlib.Core.Path.{_≡_};
-ghost use mathlib.Core.List.{_∷_, _++_};
-ghost use Prim.Native.Nat.{_+_, _^_, _≤_, _<_};
-ghost use lib.ListN.{length, take, drop, getD};
-ghost use lib.Bits.{bitAnd};
+ghost use mathlib.Core.List.{_++_};
+ghost use Prim.Native.Nat.{_+_, _<_};
+ghost use lib.ListN.{length, drop};
 ghost use lib.Count.{ones};
-ghost use Rattle.meaning.specs.Answers.{_=?_};
 ghost use Rattle.meaning.specs.RuleFile.{ruleOf};
-ghost use Rattle.meaning.specs.SkipBook.{stillMarks, wordOf, bookOf};
+ghost use Rattle.meaning.specs.SkipBook.{endMarks, stillMarks, holdMarks, wordOf, bookOf};
 ghost use Rattle.rule.specs.Says.{RuleOf};
-ghost use Rattle.book.specs.Sets.{StandsFor, firstOf, Reached, Holds};
 
-// The states whose reach is themselves alone.
-fn still_word(reach: &[u64; 64], states: u8) -> u64
-    requires { ⌜ states ≤ 64 ⌝ }
-    ensures { λ r. ⌜ StandsFor r (firstOf states (λ q. getD (now (reach .entry)) q 0 =? 2 ^ q)) ⌝ }
-{
-    let mut set: u64 = 0;
-    let mut state: u8 = 0;
-    while state < states {
-        let own = only(state);
-        set = with(set, own, reach[state as usize] == own);
-        state += 1;
-    }
-    set
-}
-
-// The states whose reach has none of the states that change the level above.
-fn hold_word(reach: &[u64; 64], states: u8, change: u64) -> u64
-    requires { ⌜ states ≤ 64 ⌝ }
-    ensures { λ r. ⌜ StandsFor r (firstOf states (λ p. bitAnd (getD (now (reach .entry)) p 0) change =? 0)) ⌝ }
-{
-    let mut set: u64 = 0;
-    let mut state: u8 = 0;
-    while state < states {
-        let own = only(state);
-        set = with(set, own, reach[state as usize] & change == 0);
-        state += 1;
-    }
-    set
-}
-
-// hold(u) for each state u.
-fn hold_words(file: &[u8], rule: Rule, reach: &[u64; 64]) -> [u64; 64]
+// The states with no move to another state.
+fn still_word(file: &[u8], rule: Rule, lowers: u64) -> u64
     requires { ⌜ RuleOf (now file) rule ⌝ }
-    ensures { λ r. ⌜ (length r ≡ 64) × (Reached (ruleOf (now (file .entry))) 64 (now (reach .entry)) → Holds (ruleOf (now (file .entry))) r) ⌝ }
+    requires { ⌜ lowers ≡ wordOf (endMarks (ruleOf (now file))) ⌝ }
+    ensures { λ r. ⌜ r ≡ wordOf (stillMarks (ruleOf (now (file .entry)))) ⌝ }
 {
-    let mut table = no_sets();
-    let states = rule.states;
-    let mut upper: u8 = 0;
-    while upper < states {
-        table[upper as usize] = hold_word(reach, states, changes(file, rule, upper));
-        upper += 1;
+    let all = first_states(rule.states);
+    let mut set: u64 = 0;
+    let mut state: u8 = 0;
+    while state < rule.states {
+        let own = only(state);
+        set = with(set, own, !leads_into(file, rule, state, lowers, all ^ own));
+        state += 1;
     }
-    table
+    set
 }
 
-// Word 0 is still, and word 1+u is hold(u). The words past them stay.
-fn write_words(book: &mut [u64], still: u64, holds: &[u64; 64], states: u8)
-    requires { ⌜ (states ≤ 64) × (states < length (now book)) × (length (now holds) ≡ 64) ⌝ }
-    ensures { λ r. ⌜ now (book .exit) ≡ still ∷ (take states (now (holds .entry)) ++ drop (states + 1) (now (book .entry))) ⌝ }
+// The states that do not lead to one that changes the level above, whose state is u.
+fn hold_word(file: &[u8], rule: Rule, lowers: u64, upper: u8) -> u64
+    requires { ⌜ RuleOf (now file) rule ⌝ }
+    requires { ⌜ lowers ≡ wordOf (endMarks (ruleOf (now file))) ⌝ }
+    requires { ⌜ upper < rule .states ⌝ }
+    ensures { λ r. ⌜ r ≡ wordOf (holdMarks (ruleOf (now (file .entry))) upper) ⌝ }
 {
-    book[0] = still;
-    let mut upper: u8 = 0;
-    while upper < states {
-        book[1 + upper as usize] = holds[upper as usize];
-        upper += 1;
-    }
+    let met = leading_to(file, rule, lowers, changes(file, rule, upper));
+    first_states(rule.states) ^ met
 }
 
-// The book of a rule whose Reach is found, made in its own room and then written. The answer is how many states are still,
-// counted as the ones in that word.
-pub fn write_book(file: &[u8], rule: Rule, reach: &[u64; 64], book: &mut [u64]) -> u32
+// Word 0 is still, and word 1+u is hold(u), each written once, when it is finished; the words past them stay. The answer is how
+// many states are still, counted as the ones in that word.
+pub fn write_book(file: &[u8], rule: Rule, lowers: u64, book: &mut [u64]) -> u32
     requires { ⌜ RuleOf (now file) rule ⌝ }
     requires { ⌜ rule .states < length (now book) ⌝ }
-    requires { ⌜ Reached (ruleOf (now file)) 64 (now reach) ⌝ }
+    requires { ⌜ lowers ≡ wordOf (endMarks (ruleOf (now file))) ⌝ }
     ensures { λ r. ⌜ r ≡ ones (wordOf (stillMarks (ruleOf (now (file .entry))))) ⌝ }
     ensures { λ r. ⌜ now (book .exit) ≡ bookOf (ruleOf (now (file .entry))) ++ drop (rule .states + 1) (now (book .entry)) ⌝ }
 {
-    let states = rule.states;
-    let still = still_word(reach, states);
-    let holds = hold_words(file, rule, reach);
-    write_words(book, still, &holds, states);
+    let still = still_word(file, rule, lowers);
+    book[0] = still;
+    let mut upper: u8 = 0;
+    while upper < rule.states {
+        book[1 + upper as usize] = hold_word(file, rule, lowers, upper);
+        upper += 1;
+    }
     u64::count_ones(still)
 }

@@ -61,6 +61,17 @@ pub fn fed(name: &[u8], f: Fed) {
     }
 }
 
+// The first letters of the top and of the two outermost levels.
+pub fn firsts(name: &[u8], top: u16, outermost: u16, second: u16) {
+    text(name);
+    text(b" top");
+    number(top as u64);
+    text(b" levels");
+    number(outermost as u64);
+    number(second as u64);
+    text(b"\n");
+}
+
 pub fn checked(name: &[u8], c: Checked) {
     text(name);
     match c {

@@ -4,6 +4,7 @@ mod documents;
 mod ends;
 mod files;
 mod largest;
+mod letters;
 mod lines;
 mod missing;
 mod readings;
@@ -21,5 +22,6 @@ fn main() {
     documents::cases();
     documents::full_case();
     missing::moves();
+    letters::cases();
     readings::refusals();
 }

@@ -5,6 +5,7 @@ use crate::lines;
 use crate::rules::rule_b;
 use crate::rules::rule_of_none;
 use crate::stores;
+use meaning::NO_LETTER;
 use meaning::Reading;
 
 // A reading with so many levels open, after as many events and looks.
@@ -15,6 +16,7 @@ fn at_depth(depth: u32) -> Reading {
         skip: 0,
         taken: depth,
         looks: depth,
+        first: NO_LETTER,
     }
 }
 

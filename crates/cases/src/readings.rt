@@ -5,6 +5,7 @@ use crate::lines;
 use crate::rules::rule_a;
 use crate::stores;
 use meaning::Level;
+use meaning::NO_LETTER;
 use meaning::Reading;
 
 fn reading_at(state: u8, depth: u32, skip: u32, taken: u32, looks: u32) -> Reading {
@@ -14,13 +15,18 @@ fn reading_at(state: u8, depth: u32, skip: u32, taken: u32, looks: u32) -> Readi
         skip,
         taken,
         looks,
+        first: NO_LETTER,
     }
 }
 
 // One event fed to a reading over levels with a state above them, by some book.
 fn feed_with(name: &[u8], reading: Reading, above: u8, book: &[u64]) {
     let file = rule_a();
-    let levels = [Level { above, opened: 0 }; 1024];
+    let levels = [Level {
+        above,
+        first: NO_LETTER,
+        opened: 0,
+    }; 1024];
     let outcome = stores::over_many(&file, book, MOST, reading, levels, &[2]);
     lines::fed(name, outcome.fed);
 }
@@ -46,9 +52,14 @@ fn finish_at(name: &[u8], reading: Reading, opened: u32) {
     let book = book_a();
     let mut levels = [Level {
         above: 0,
+        first: NO_LETTER,
         opened: 9,
     }; 1024];
-    levels[1] = Level { above: 0, opened };
+    levels[1] = Level {
+        above: 0,
+        first: 1,
+        opened,
+    };
     lines::end(
         name,
         reading::finish_array(&file, &book, reading, levels),
@@ -56,7 +67,32 @@ fn finish_at(name: &[u8], reading: Reading, opened: u32) {
     );
 }
 
+// One event fed at depth one to a reading with some first letters: the top's, and that of the level.
+fn feed_letters(name: &[u8], top: u16, first: u16) {
+    let file = rule_a();
+    let book = book_a();
+    let reading = Reading {
+        state: 0,
+        depth: 1,
+        skip: 0,
+        taken: 2,
+        looks: 2,
+        first: top,
+    };
+    let levels = [Level {
+        above: 0,
+        first,
+        opened: 0,
+    }; 1024];
+    let outcome = stores::over_many(&file, &book, MOST, reading, levels, &[2]);
+    lines::fed(name, outcome.fed);
+}
+
 pub fn refusals() {
+    feed_letters(b"first letters below k", 1, 0);
+    feed_letters(b"a top letter of k", 2, 0);
+    feed_letters(b"a stored letter of k", NO_LETTER, 2);
+    feed_letters(b"a top letter below the mark", 0xfffe, 0);
     feed_one(b"a fresh reading", reading_at(0, 0, 0, 0, 0), 0);
     feed_with(
         b"a book too short to read with",

@@ -443,3 +443,19 @@ pub fn rule_with_spare() -> [u8; 47] {
         0,
     ]
 }
+
+// One state and 256 letters, every move to it.
+pub fn rule_of_256_letters() -> [u8; 287] {
+    let mut file = [0; 287];
+    file[0] = 5;
+    file[4] = 1;
+    file[6] = 1;
+    file[10] = 1;
+    file[12] = 1;
+    file[15] = 2;
+    file[273] = 1;
+    file[277] = 3;
+    file[280] = 1;
+    file[284] = 4;
+    file
+}

@@ -16,6 +16,7 @@ pub struct Outcome {
 pub fn blank() -> Level {
     Level {
         above: 0,
+        first: 0,
         opened: 0,
     }
 }

@@ -15,10 +15,11 @@ use denote.Plain.{bool-tells}
 use denote.Builtin.{u8, u16, u64, bool}
 use denote.Slice.{sliceVal}
 use denote.Triple.Spec.{Meets}
-use Rattle.meaning.specs.Calls.{Whole, endSays, feedingSays, wholeDocument}
+use Rattle.meaning.specs.Calls.{Whole, endSays, tracedSays, feedingSays, wholeDocument}
 use Rattle.meaning.specs.declared.End.{End}
 use Rattle.meaning.specs.declared.Fed.{Fed}
 use Rattle.meaning.specs.declared.Level.{Level}
+use Rattle.meaning.specs.declared.Traced.{Traced}
 use Rattle.levels.proofs.Values.{FitsIn, passed}
 use Rattle.levels.proofs.Element.{record-type}
 use Rattle.levels.proofs.InPlace.{Gives}
@@ -26,11 +27,14 @@ use Rattle.levels.proofs.Passing.{Said, lent, replies-with}
 use Rattle.levels.proofs.Loans.{at-list, MutLoan, as-mut, ShrLoan, as-shr}
 use Rattle.reading.specs.Whole.{ReadIs}
 use Rattle.reading.proofs.Called.{fed-value, end-value}
+use Rattle.reading.proofs.Traces.{traced-value}
 use Rattle.reading.proofs.read_document as read-document
 use Rattle.reading.proofs.read_document.Symbol.{name as #read-document}
-use Rattle.host.specs.Numbers.{Laid, answerNumbers, inFront, judgedValues, fedNumbers}
+use Rattle.host.specs.Numbers.{Laid, answerNumbers, inFront, countValue, judgedValues, fedNumbers}
 use Rattle.host.proofs.answers.lay_fed as lay-fed
 use Rattle.host.proofs.answers.lay_fed.Symbol.{name as #lay-fed}
+use Rattle.host.proofs.answers.lay_traced as lay-traced
+use Rattle.host.proofs.answers.lay_traced.Symbol.{name as #lay-traced}
 use Rattle.host.proofs.answers.lay_end as lay-end
 use Rattle.host.proofs.answers.lay_end.Symbol.{name as #lay-end}
 
@@ -50,6 +54,14 @@ module _ {M : Type 1} {𝓤 : URA M} {H : Heap 𝓤} {A : Atoms 𝓤} (W : Given
       replies-with W 𝓣 #lay-end (passed end-value x fits ∷ lent (as-mut 𝓤 H A u64 b o n held l) ∷ []) bool vbool bool-tells (λ fitted ws. Laid (answerNumbers judgedValues (endSays x)) held fitted (ws .1 .0)) (emp 𝓤) (id⊢ 𝓤 (emp 𝓤)) (λ fitted. Laid (answerNumbers judgedValues (endSays x)) held fitted (inFront (answerNumbers judgedValues (endSays x)) held)) (tt, (inFront (answerNumbers judgedValues (endSays x)) held, tt))
       (λ z. known (((l .lifetime (z .0), tt), (l .share (z .0), tt), tt, (x, (at-list u64 (l .name (z .0)) b o held, tt)), (end-value .val x ∷ [], (sliceVal (b, o) n ∷ [], tt))), tt))
       (λ fitted ws e. (subst (Laid (answerNumbers judgedValues (endSays x)) held fitted) (e .heldIs) e, ap (λ (zs : List ℕ). (tt, (zs, tt))) (e .heldIs)))
+
+  pub lay-traced-by : (x : Traced) (held : List ℕ) → Meets 𝓤 H A lay-traced.signature (𝓣 .C #lay-traced) (lay-traced.spec 𝓤 H A at-mem run) → {b o n : ℕ} (l : MutLoan 𝓤 H A u64 b o n held) → FitsIn traced-value x
+      → Gives 𝓤 H A (𝓣 .C #lay-traced) (l .before ∷ []) (traced-value .val x ∷ sliceVal (b, o) n ∷ [])
+      (Said bool vbool (λ fitted. Laid (answerNumbers countValue (tracedSays x)) held fitted (inFront (answerNumbers countValue (tracedSays x)) held))) (λ x. vbool (x .answer)) (λ _. l .after (inFront (answerNumbers countValue (tracedSays x)) held) ∷ [])
+  lay-traced-by x held known {b} {o} {n} l fits =
+      replies-with W 𝓣 #lay-traced (passed traced-value x fits ∷ lent (as-mut 𝓤 H A u64 b o n held l) ∷ []) bool vbool bool-tells (λ fitted ws. Laid (answerNumbers countValue (tracedSays x)) held fitted (ws .1 .0)) (emp 𝓤) (id⊢ 𝓤 (emp 𝓤)) (λ fitted. Laid (answerNumbers countValue (tracedSays x)) held fitted (inFront (answerNumbers countValue (tracedSays x)) held)) (tt, (inFront (answerNumbers countValue (tracedSays x)) held, tt))
+      (λ z. known (((l .lifetime (z .0), tt), (l .share (z .0), tt), tt, (x, (at-list u64 (l .name (z .0)) b o held, tt)), (traced-value .val x ∷ [], (sliceVal (b, o) n ∷ [], tt))), tt))
+      (λ fitted ws e. (subst (Laid (answerNumbers countValue (tracedSays x)) held fitted) (e .heldIs) e, ap (λ (zs : List ℕ). (tt, (zs, tt))) (e .heldIs)))
 
   pub read-document-by : (file : List ℕ) (book : List ℕ) (levels : List Level) (events : List ℕ) → Meets 𝓤 H A read-document.signature (𝓣 .C #read-document) (read-document.spec 𝓤 H A at-mem run) → {b₀ o₀ n₀ b₁ o₁ n₁ b₂ o₂ n₂ b₃ o₃ n₃ : ℕ} (l₀ : ShrLoan 𝓤 H A u8 b₀ o₀ n₀ file) (l₁ : MutLoan 𝓤 H A u64 b₁ o₁ n₁ book) (l₂ : MutLoan 𝓤 H A record-type b₂ o₂ n₂ levels) (l₃ : ShrLoan 𝓤 H A u16 b₃ o₃ n₃ events)
       → Gives 𝓤 H A (𝓣 .C #read-document) (l₀ .before ∷ l₁ .before ∷ l₂ .before ∷ l₃ .before ∷ []) (sliceVal (b₀, o₀) n₀ ∷ sliceVal (b₁, o₁) n₁ ∷ sliceVal (b₂, o₂) n₂ ∷ sliceVal (b₃, o₃) n₃ ∷ [])

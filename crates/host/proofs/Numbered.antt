@@ -12,7 +12,7 @@ use Rattle.meaning.specs.RuleFile.{Move, noMove, to, numbersCheck, tableCheck, 
 use Rattle.meaning.specs.FullReading.{Event, opens, closes, letter, eventOf, Turn, Table, letterTable, startTable, treeTable, noMoveNumber, look, fullTurn, knownEvent, Went, goOn, feedBy}
 use Rattle.meaning.specs.SkipBook.{bookCheck, makeBook}
 use Rattle.meaning.specs.Skipping.{settledTurn, endsLevel, skipTurn, skipEvent}
-use Rattle.meaning.specs.Calls.{Stored, openCall, storeStep, readingCheck, fedFrom, feedCall, endOf, finishCall, finishFed, readWith, wholeFrom, wholeDocument}
+use Rattle.meaning.specs.Calls.{Stored, openCall, storeStep, readingCheck, fedFrom, feedCall, endOf, finishCall, finishFed, readWith, wholeFrom, wholeDocument, pathFits, pathCall}
 use Rattle.meaning.specs.declared.Reading.{Reading}
 use Rattle.meaning.specs.declared.Level.{Level}
 use Rattle.meaning.specs.declared.Opening.{Opening}
@@ -100,7 +100,7 @@ short R book = refuses _ _ _ _ (omega arith) isGiven
 
 made : (R : format.Rule) (book : List ℕ) → Numbered (makeBook R book)
 unfolding makeBook
-made R book = follows _ _ (short R book) (refuses _ _ _ _ (omega arith) isGiven)
+made R book = follows _ _ (short R book) isGiven
 
 pub open-numbered : (file book : List ℕ) → Numbered (openCall file book)
 unfolding openCall
@@ -141,7 +141,7 @@ step : (R : format.Rule) (book : List ℕ) (ceiling : ℕ) (s : Stored) (e : ℕ
 unfolding storeStep
 step R book ceiling s e = gives _ _ (event R book _ ceiling _ _ e) (λ turn. isGiven)
 
--- ---- feed, finish and the whole document
+-- ---- feed, finish, the path and the whole document
 
 goes-on : {A : Type 0} (a : A) (x : Answer A) (rest : A → Went A) → Numbered x → ((b : A) → Numbered (rest b .ended))
     → Numbered (goOn a x rest .ended)
@@ -172,6 +172,11 @@ feed-numbered file book ceiling r store events = fed _ book ceiling _ events (re
 pub finish-numbered : (file book : List ℕ) (r : Reading) (store : List Level) → Numbered (finishCall file book r store)
 unfolding finishCall endOf
 finish-numbered file book r store =
+    gives _ _ (reading file book r store) (λ R. refuses _ _ _ _ (omega arith) isGiven)
+
+pub path-numbered : (file book : List ℕ) (r : Reading) (store : List Level) (lent : List ℕ) → Numbered (pathCall file book r store lent)
+unfolding pathCall pathFits
+path-numbered file book r store lent =
     gives _ _ (reading file book r store) (λ R. refuses _ _ _ _ (omega arith) isGiven)
 
 whole : (x : Answer Opening) (file book : List ℕ) (store : List Level) (events : List ℕ) → Numbered x → Numbered (wholeFrom x file book store events .answer)

@@ -36,13 +36,13 @@ answerNumbers values (refused number place) = number ∷ place ∷ []
 abbrev pub ruleValues : Rule → List ℕ
 ruleValues R = R .states ∷ R .initial ∷ R .«tree_start» ∷ R .letters ∷ []
 
--- the count of bytes written
+-- the count of bytes written, or of letters laid
 abbrev pub countValue : ℕ → List ℕ
 countValue count = count ∷ []
 
--- the state, the stored depth, the skip depth, the events taken and the looks made
+-- the state, the stored depth, the skip depth, the events taken, the looks made, and the top's first letter or the mark
 abbrev pub readingValues : Reading → List ℕ
-readingValues r = r .state ∷ r .depth ∷ r .skip ∷ r .taken ∷ r .looks ∷ []
+readingValues r = r .state ∷ r .depth ∷ r .skip ∷ r .taken ∷ r .looks ∷ r .first ∷ []
 
 -- how many states are still, and the fresh reading
 abbrev pub openingValues : Opening → List ℕ
@@ -61,17 +61,21 @@ fedNumbers (refused number place) took r = number ∷ place ∷ took ∷ reading
 abbrev pub wentNumbers : Reading → Went Stored → List ℕ
 wentNumbers before w = fedNumbers (w .ended) (eventsTaken before w) (w .last .reading)
 
--- ---- a reading, which a host hands over as five numbers
+-- ---- a reading, which a host hands over as six numbers
 
-abbrev pub readingFrom : ℕ → ℕ → ℕ → ℕ → ℕ → Reading
-readingFrom state depth skip taken looks =
-    record { state = state; depth = depth; skip = skip; taken = taken; looks = looks }
+abbrev pub readingFrom : ℕ → ℕ → ℕ → ℕ → ℕ → ℕ → Reading
+readingFrom state depth skip taken looks first =
+    record { state = state; depth = depth; skip = skip; taken = taken; looks = looks; first = first }
 
--- ---- what feeding and the whole-document call say of the lent answer and of what else was lent
+-- ---- what feeding, the path and the whole-document call say of the lent answer and of what else was lent
 
 pub record FeedLaid (w : Went Stored) (before : Reading) (held : List ℕ) (fitted : Bool) (store : List Level) (held′ : List ℕ) : Type 0 where
   pub laid : Laid (wentNumbers before w) held fitted held′
   pub storeIs : store ≡ w .last .store
+
+pub record PathLaid (answer : Answer ℕ) (path held : List ℕ) (fitted : Bool) (letters held′ : List ℕ) : Type 0 where
+  pub laid : Laid (answerNumbers countValue answer) held fitted held′
+  pub lettersIs : letters ≡ path
 
 pub record DocumentLaid (w : Whole) (held : List ℕ) (fitted : Bool) (book : List ℕ) (store : List Level) (held′ : List ℕ) : Type 0 where
   pub laid : Laid (answerNumbers judgedValues (w .answer)) held fitted held′

@@ -7,13 +7,14 @@ use meaning::Judgement;
 use meaning::Opened;
 use meaning::Reading;
 use meaning::Refusal;
+use meaning::Traced;
 use meaning::Verdict;
 use rule::Checked;
 use rule::Rule;
 use rule::Written;
 ghost use mathlib.Core.Path.{_≡_};
 ghost use mathlib.Core.List.{[], _∷_};
-ghost use Rattle.meaning.specs.Calls.{openedSays, verdictSays, endSays, feedingSays};
+ghost use Rattle.meaning.specs.Calls.{openedSays, verdictSays, endSays, tracedSays, feedingSays};
 ghost use Rattle.rule.specs.Says.{checkedSays, writtenSays};
 ghost use Rattle.host.specs.Numbers.{Laid, answerNumbers, ruleValues, countValue, openingValues, readingValues, judgedValues, fedNumbers};
 
@@ -65,11 +66,21 @@ pub fn lay_written(written: Written, answer: &mut [u64]) -> bool
     }
 }
 
+// The answer of the path.
+pub fn lay_traced(traced: Traced, answer: &mut [u64]) -> bool
+    ensures { λ r. ⌜ Laid (answerNumbers countValue (tracedSays traced)) (now (answer .entry)) r (now (answer .exit)) ⌝ }
+{
+    match traced {
+        Traced::Letters(count) => lay_count(count as u64, answer),
+        Traced::Refused(refusal) => lay_refusal(refusal, answer),
+    }
+}
+
 // A count and a reading.
 fn lay_counted(number: u8, place: usize, count: u32, reading: Reading, answer: &mut [u64]) -> bool
     ensures { λ r. ⌜ Laid (number ∷ place ∷ count ∷ readingValues reading) (now (answer .entry)) r (now (answer .exit)) ⌝ }
 {
-    let numbers: [u64; 8] = [
+    let numbers: [u64; 9] = [
         number as u64,
         place as u64,
         count as u64,
@@ -78,6 +89,7 @@ fn lay_counted(number: u8, place: usize, count: u32, reading: Reading, answer: &
         reading.skip as u64,
         reading.taken as u64,
         reading.looks as u64,
+        reading.first as u64,
     ];
     lay(&numbers, answer)
 }

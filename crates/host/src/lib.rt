@@ -1,6 +1,6 @@
 // What a host in C or Rust links: the calls of rule and reading on numbers and slices. Each call lays its answer into a
 // lent slice of 64-bit numbers: the number of the refusal or 0, its place or 0, and then the values that were given. It returns
-// whether they fitted: into a slice that is too short nothing is laid. Eight numbers are room enough for every call.
+// whether they fitted: into a slice that is too short nothing is laid. Nine numbers are room enough for every call.
 mod answers;
 mod lay;
 
@@ -8,22 +8,24 @@ use answers::lay_checked;
 use answers::lay_end;
 use answers::lay_fed;
 use answers::lay_opened;
+use answers::lay_traced;
 use answers::lay_written;
 use meaning::Level;
 use meaning::Reading;
 use reading::feed;
 use reading::finish;
 use reading::open;
+use reading::path;
 use reading::read_document;
 use rule::Rule;
 use rule::writer::write;
 ghost use mathlib.Core.Path.{_≡_};
 ghost use lib.ListN.{length};
 ghost use Rattle.meaning.specs.RuleFile.{writeCheck, outputAfter};
-ghost use Rattle.meaning.specs.Calls.{openCall, openedBook, feedCall, finishCall, wholeDocument};
+ghost use Rattle.meaning.specs.Calls.{openCall, openedBook, feedCall, finishCall, pathCall, pathLaid, wholeDocument};
 ghost use Rattle.rule.specs.Says.{checkAnswer};
 ghost use Rattle.rule.specs.Checks.{ruleFrom};
-ghost use Rattle.host.specs.Numbers.{Laid, answerNumbers, ruleValues, countValue, openingValues, judgedValues, readingFrom, FeedLaid, DocumentLaid};
+ghost use Rattle.host.specs.Numbers.{Laid, answerNumbers, ruleValues, countValue, openingValues, judgedValues, readingFrom, FeedLaid, PathLaid, DocumentLaid};
 
 // The rule check: n, the initial state, the tree start and k.
 #[no_mangle]
@@ -62,7 +64,7 @@ pub extern "C" fn venticapro_write_rule(
     lay_written(written, answer)
 }
 
-// Open: how many states are still, and the fresh reading, its state and its four counts; the book lies in the words lent. A host
+// Open: how many states are still, and the fresh reading, its state, its four counts and the mark; the book lies in the words lent. A host
 // hands that reading and that book on to feeding and finish. One that wants full reading opens too, and then feeds and finishes
 // with a book of n+1 zeros.
 #[no_mangle]
@@ -74,7 +76,7 @@ pub extern "C" fn venticapro_open(file: &[u8], book: &mut [u64], answer: &mut [u
 }
 
 // Feeding: the events it took and the reading after them, also where an event is refused. The level store is lent as records:
-// the state above the level, and the place of its opening.
+// the state above the level, its first letter or the mark, and the place of its opening.
 #[no_mangle]
 pub extern "C" fn venticapro_feed(
     file: &[u8],
@@ -85,11 +87,12 @@ pub extern "C" fn venticapro_feed(
     skip: u32,
     taken: u32,
     looks: u32,
+    first: u16,
     levels: &mut [Level],
     events: &[u16],
     answer: &mut [u64],
 ) -> bool
-    ensures { λ r. ⌜ FeedLaid (feedCall (now (file .entry)) (now (book .entry)) ceiling (readingFrom state depth skip taken looks) (now (levels .entry)) (now (events .entry))) (readingFrom state depth skip taken looks) (now (answer .entry)) r (now (levels .exit)) (now (answer .exit)) ⌝ }
+    ensures { λ r. ⌜ FeedLaid (feedCall (now (file .entry)) (now (book .entry)) ceiling (readingFrom state depth skip taken looks first) (now (levels .entry)) (now (events .entry))) (readingFrom state depth skip taken looks first) (now (answer .entry)) r (now (levels .exit)) (now (answer .exit)) ⌝ }
 {
     let reading = Reading {
         state,
@@ -97,6 +100,7 @@ pub extern "C" fn venticapro_feed(
         skip,
         taken,
         looks,
+        first,
     };
     let fed = feed(file, book, ceiling, reading, &mut *levels, events);
     lay_fed(fed, answer)
@@ -112,10 +116,11 @@ pub extern "C" fn venticapro_finish(
     skip: u32,
     taken: u32,
     looks: u32,
+    first: u16,
     levels: &[Level],
     answer: &mut [u64],
 ) -> bool
-    ensures { λ r. ⌜ Laid (answerNumbers judgedValues (finishCall (now (file .entry)) (now (book .entry)) (readingFrom state depth skip taken looks) (now (levels .entry)))) (now (answer .entry)) r (now (answer .exit)) ⌝ }
+    ensures { λ r. ⌜ Laid (answerNumbers judgedValues (finishCall (now (file .entry)) (now (book .entry)) (readingFrom state depth skip taken looks first) (now (levels .entry)))) (now (answer .entry)) r (now (answer .exit)) ⌝ }
 {
     let reading = Reading {
         state,
@@ -123,9 +128,40 @@ pub extern "C" fn venticapro_finish(
         skip,
         taken,
         looks,
+        first,
     };
     let end = finish(file, book, reading, levels);
     lay_end(end, answer)
+}
+
+// The path to where a reading stands: how many letters lie in the slice lent for them, the top's first and then that of each
+// stored level from the outermost to the innermost, 65,535 for a level that has none yet.
+#[no_mangle]
+pub extern "C" fn venticapro_path(
+    file: &[u8],
+    book: &[u64],
+    state: u8,
+    depth: u32,
+    skip: u32,
+    taken: u32,
+    looks: u32,
+    first: u16,
+    levels: &[Level],
+    letters: &mut [u16],
+    answer: &mut [u64],
+) -> bool
+    ensures { λ r. ⌜ PathLaid (pathCall (now (file .entry)) (now (book .entry)) (readingFrom state depth skip taken looks first) (now (levels .entry)) (now (letters .entry))) (pathLaid (now (file .entry)) (now (book .entry)) (readingFrom state depth skip taken looks first) (now (levels .entry)) (now (letters .entry))) (now (answer .entry)) r (now (letters .exit)) (now (answer .exit)) ⌝ }
+{
+    let reading = Reading {
+        state,
+        depth,
+        skip,
+        taken,
+        looks,
+        first,
+    };
+    let traced = path(file, book, reading, levels, &mut *letters);
+    lay_traced(traced, answer)
 }
 
 // A whole document: the class of the verdict and the end state.

@@ -24,7 +24,7 @@ machine d = LL.val L.the-type L′.the-laws d
 abbrev pub machines : Level → List Val
 machines d = machine d ∷ []
 
--- both its numbers fit
+-- its three numbers fit
 abbrev pub Fits : Level → Type 0
 Fits d = Is record-type d (machines d)
 

@@ -21,6 +21,7 @@ pub fn level_at(levels: &[Level], at: usize) -> Level
     } else {
         Level {
             above: 0,
+            first: 0,
             opened: 0,
         }
     }

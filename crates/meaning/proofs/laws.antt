@@ -7,3 +7,4 @@ pub mod Tables
 pub mod FeedLaws
 pub mod FeedKeeps
 pub mod Following
+pub mod Letters

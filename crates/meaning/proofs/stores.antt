@@ -7,6 +7,7 @@ pub mod ReadingCheck
 pub mod SplitFeeds
 pub mod OneAnswer
 pub mod Opens
+pub mod Path
 pub mod Whole
 pub mod ZeroBook
 pub mod BookBits

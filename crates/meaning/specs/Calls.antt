@@ -3,8 +3,8 @@
 use Prim.Native.Nat.{ℕ, _+_, _-_, _≤_, _<_}
 use mathlib.Core.Path.{_≡_}
 use mathlib.Core.Bool.{Bool, not, _&&_, _||_}
-use mathlib.Core.List.{List}
-use lib.ListN.{length, getD, set, take}
+use mathlib.Core.List.{List, [], _∷_, _++_}
+use lib.ListN.{length, getD, set, take, drop}
 use Rattle.meaning.specs.declared.Reading.{Reading}
 use Rattle.meaning.specs.declared.Level.{Level}
 use Rattle.meaning.specs.declared.Refusal.{Refusal}
@@ -15,11 +15,13 @@ use Rattle.meaning.specs.declared.Opened.{Opened}
 use Rattle.meaning.specs.declared.Opened.the-variants as opened
 use Rattle.meaning.specs.declared.End.{End}
 use Rattle.meaning.specs.declared.End.the-variants as end
+use Rattle.meaning.specs.declared.Traced.{Traced}
+use Rattle.meaning.specs.declared.Traced.the-variants as traced
 use Rattle.meaning.specs.declared.Feeding.{Feeding}
 use Rattle.meaning.specs.declared.Feeding.the-variants as feeding
-use Rattle.meaning.specs.Answers.{Answer, given, refused, refuse_at_when_otherwise_, _andThen_, _giving_, _<?_, if_then_else_}
+use Rattle.meaning.specs.Answers.{Answer, given, refused, refuse_at_when_otherwise_, _andThen_, _giving_, _<?_, _=?_, if_then_else_}
 use Rattle.meaning.specs.RuleFile.{Rule, isState, classOf, checkRule, ruleOf}
-use Rattle.meaning.specs.FullReading.{Turn, Run, innermost, blank, freshReading, Went, feedBy}
+use Rattle.meaning.specs.FullReading.{Turn, Run, innermost, blank, noLetter, freshReading, Went, feedBy}
 use Rattle.meaning.specs.OpenLevels.{StoredOf, storedAfterOf}
 use Rattle.meaning.specs.SkipBook.{allBelow, bookCheck, makeBook, bookAfter}
 use Rattle.meaning.specs.Skipping.{settled, skipEvent}
@@ -49,6 +51,10 @@ unfoldable pub endSays : End → Answer Judged
 endSays (end.Judged j) = given (record { class = verdictSays (j .verdict); state = j .state })
 endSays (end.Refused r) = refusalSays r
 
+unfoldable pub tracedSays : Traced → Answer ℕ
+tracedSays (traced.Letters count) = given count
+tracedSays (traced.Refused r) = refusalSays r
+
 unfoldable pub feedingSays : Feeding → Answer Unit
 feedingSays feeding.AllTaken = given tt
 feedingSays (feeding.Refused r) = refusalSays r
@@ -56,7 +62,7 @@ feedingSays (feeding.Refused r) = refusalSays r
 -- ---- open
 
 -- One call, in the place of the maker and the fresh reading: it fills the lent book and gives the fresh reading and how many
--- states are still. Refusals: the rule check, 6, 15.
+-- states are still. Refusals: the rule check, 6.
 unfoldable pub openCall : List ℕ → List ℕ → Answer Opening
 openCall file book =
     checkRule file giving λ R.
@@ -76,7 +82,8 @@ Stored = StoredOf Reading (List Level)
 unfoldable pub topOf : Reading → List Level → Level
 topOf r store = getD store (r .depth - 1) blank
 
--- Only an open that is stored writes a record, and only its own; a close clears nothing.
+-- An open that is stored writes its own record, and a letter that replaces the mark writes that of its level, the innermost one;
+-- no other event writes, and a close clears nothing.
 abbrev pub storedAfter : Reading → List Level → Turn → Stored
 storedAfter r store turn = storedAfterOf (λ s i l. set s i l) (r .depth) store turn
 
@@ -87,7 +94,7 @@ storeStep R book ceiling s e =
 
 -- ---- feed
 
--- Number 13 has six conditions. The state is not below n;
+-- Number 13 has eight conditions. The state is not below n;
 abbrev pub stateOut : Rule → Reading → Bool
 stateOut R r = not (isState (R .states) (r .state))
 
@@ -107,9 +114,21 @@ skipsUnsettled book r store = 0 <? r .skip && not (settled book r (topOf r store
 abbrev pub levelsPastTaken : Reading → Bool
 levelsPastTaken r = r .taken <? r .depth + r .skip
 
--- the looks are above the events taken.
+-- the looks are above the events taken;
 abbrev pub looksPastTaken : Reading → Bool
 looksPastTaken r = r .taken <? r .looks
+
+-- (a first letter is below k, or the mark)
+unfoldable pub isFirst : ℕ → ℕ → Bool
+isFirst k first = first <? k || first =? noLetter
+
+-- the top's letter is neither the mark nor below k;
+abbrev pub topLetterOut : Rule → Reading → Bool
+topLetterOut R r = not (isFirst (R .letters) (r .first))
+
+-- a letter recorded below the stored depth is neither the mark nor below k.
+abbrev pub storedLetterOut : Rule → Reading → List Level → Bool
+storedLetterOut R r store = not (allBelow (r .depth) (λ i. isFirst (R .letters) (getD store i blank .first)))
 
 unfoldable pub notReading : Rule → List ℕ → Reading → List Level → Bool
 notReading R book r store =
@@ -118,7 +137,9 @@ notReading R book r store =
     || (storedStateOut R r store
     || (skipsUnsettled book r store
     || (levelsPastTaken r
-    || looksPastTaken r))))
+    || (looksPastTaken r
+    || (topLetterOut R r
+    || storedLetterOut R r store))))))
 
 -- what feed and finish check first: rule, 6, 13
 unfoldable pub readingCheck : List ℕ → List ℕ → Reading → List Level → Answer Rule
@@ -187,6 +208,39 @@ endOfRun R m = endOf R (m .reading) (innermost (m .levels))
 unfoldable pub finishCall : List ℕ → List ℕ → Reading → List Level → Answer Judged
 finishCall file book r store = readingCheck file book r store giving λ R. endOf R r (topOf r store)
 
+-- ---- the path
+
+-- the first letters of some records, in their order
+unfoldable pub firstsOf : List Level → List ℕ
+firstsOf [] = []
+firstsOf (l ∷ ls) = l .first ∷ firstsOf ls
+
+-- The letters from the top to the place: the top's first letter, then that of each stored level from the outermost to the
+-- innermost, marks included. After a refused feed it is the way to the refused event; within a part that is passed over it is the
+-- way to the settled level, since no level inside is stored.
+unfoldable pub pathOf : Reading → List Level → List ℕ
+pathOf r store = r .first ∷ firstsOf (take (r .depth) store)
+
+-- how many they are
+abbrev pub pathCount : Reading → ℕ
+pathCount r = r .depth + 1
+
+-- It takes what finish takes and a lent slice of 16-bit numbers, and answers the count. Refusals: rule, 6, 13, then 14, whose place
+-- is the count of numbers needed.
+unfoldable pub pathFits : Reading → ℕ → Answer ℕ
+pathFits r room = refuse 14 at pathCount r when room <? pathCount r otherwise given (pathCount r)
+
+unfoldable pub pathCall : List ℕ → List ℕ → Reading → List Level → List ℕ → Answer ℕ
+pathCall file book r store lent = readingCheck file book r store giving λ R. pathFits r (length lent)
+
+-- what it leaves in the lent slice: the letters, and the rest as it was; or, refused, what was there
+unfoldable pub pathAfter : Answer ℕ → Reading → List Level → List ℕ → List ℕ
+pathAfter (given count) r store lent = pathOf r store ++ drop count lent
+pathAfter (refused number place) r store lent = lent
+
+abbrev pub pathLaid : List ℕ → List ℕ → Reading → List Level → List ℕ → List ℕ
+pathLaid file book r store lent = pathAfter (pathCall file book r store lent) r store lent
+
 -- ---- a reading by the calls
 
 -- From a reading, such as the one that opening gave, to a verdict: feeding takes all events, and finish then answers it.
@@ -197,6 +251,11 @@ pub record ReadsTo (file book : List ℕ) (first : Reading) (store : List Level)
 
 -- ---- the whole-document call
 
+-- its ceiling: 1,000,000 looks
+abbrev pub defaultCeiling : ℕ
+defaultCeiling = 1000000
+
+-- the largest ceiling there is, under which the check program feeds
 abbrev pub largestCeiling : ℕ
 largestCeiling = 4294967295
 
@@ -212,7 +271,7 @@ finishFed file book w = w .ended giving λ done. finishCall file book (w .last .
 
 unfoldable pub readWith : List ℕ → List ℕ → Reading → List Level → List ℕ → Whole
 readWith file book first store events =
-    let fed : Went Stored = feedCall file book largestCeiling first store events in
+    let fed : Went Stored = feedCall file book defaultCeiling first store events in
     record { answer = finishFed file book fed; book = book; store = fed .last .store }
 
 unfoldable pub wholeFrom : Answer Opening → List ℕ → List ℕ → List Level → List ℕ → Whole
@@ -220,6 +279,6 @@ wholeFrom (given o) file book store events = readWith file (bookAfter (given o) 
 wholeFrom (refused number place) file book store events =
     record { answer = refused number place; book = book; store = store }
 
--- open, feed and finish in turn, with the book that opening wrote and from the reading that it gave, under the largest ceiling
+-- open, feed and finish in turn, with the book that opening wrote and from the reading that it gave, under the call's own ceiling
 unfoldable pub wholeDocument : List ℕ → List ℕ → List Level → List ℕ → Whole
 wholeDocument file book store events = wholeFrom (openCall file book) file book store events

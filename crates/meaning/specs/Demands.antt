@@ -1,19 +1,19 @@
 -- What is demanded of whole readings by the calls: full reading follows the automaton (demand 2), skipping ends as full reading
 -- does, after every first part too, and a passed-over part can be exchanged (demand 3). Each is a record here; that it holds is a
 -- theorem of the same subject in proofs/.
-use Prim.Native.Nat.{ℕ, _≤_}
+use Prim.Native.Nat.{ℕ, _≤_, _<_}
 use mathlib.Core.Path.{_≡_}
 use mathlib.Core.List.{List}
-use lib.ListN.{length}
+use lib.ListN.{length, getD}
 use Rattle.meaning.specs.declared.Reading.{Reading}
 use Rattle.meaning.specs.declared.Level.{Level}
 use Rattle.meaning.specs.Answers.{given}
 use Rattle.meaning.specs.RuleFile.{Rule, classOf, ruleOf}
-use Rattle.meaning.specs.FullReading.{freshRun}
+use Rattle.meaning.specs.FullReading.{freshRun, blank}
 use Rattle.meaning.specs.Hedges.{Hedge, eventsOf, Goes}
 use Rattle.meaning.specs.StreamingMachine.{Suffices}
 use Rattle.meaning.specs.PassedOver.{notPassedOver}
-use Rattle.meaning.specs.Calls.{Judged, openedBook, feedCall, ReadsTo}
+use Rattle.meaning.specs.Calls.{Judged, Stored, openedBook, feedCall, pathOf, ReadsTo}
 
 -- ---- full reading
 
@@ -45,8 +45,24 @@ pub record SoFar (file lent : List ℕ) (first : Reading) (store : List Level) (
 
 -- ---- the exchange of a passed-over part
 
--- the other events are read to the same verdict and end state, by as many looks
+-- Two readings over their stores differ at most in the events taken and in the places of openings: state, depths and looks are the
+-- same, and so are the states above the open levels and the first letters, the top's and every record's below the stored depth.
+pub record AllButPlaces (s s′ : Stored) : Type 0 where
+  pub state : s .reading .state ≡ s′ .reading .state
+  pub depth : s .reading .depth ≡ s′ .reading .depth
+  pub skip : s .reading .skip ≡ s′ .reading .skip
+  pub looks : s .reading .looks ≡ s′ .reading .looks
+  pub aboves : (i : ℕ) → i < s .reading .depth → getD (s .store) i blank .above ≡ getD (s′ .store) i blank .above
+  pub letters : pathOf (s .reading) (s .store) ≡ pathOf (s′ .reading) (s′ .store)
+
+-- the other events are all taken too, and lead to the same but for places
+pub record FeedsSame (file book : List ℕ) (first : Reading) (store : List Level) (ceiling : ℕ) (events events′ : List ℕ) : Type 0 where
+  pub takesAll : feedCall file book ceiling first store events′ .ended ≡ given tt
+  pub same : AllButPlaces (feedCall file book ceiling first store events .last) (feedCall file book ceiling first store events′ .last)
+
+-- the other events are read to the same verdict and end state, by as many looks and with the same first letters
 pub record ReadsSame (file book : List ℕ) (first : Reading) (store : List Level) (ceiling : ℕ) (events events′ : List ℕ) (j : Judged) : Type 0 where
   pub reads : ReadsTo file book first store ceiling events′ j
   pub looks : feedCall file book ceiling first store events .last .reading .looks
       ≡ feedCall file book ceiling first store events′ .last .reading .looks
+  pub feeds : FeedsSame file book first store ceiling events events′

@@ -5,9 +5,9 @@ use Prim.Native.Nat.{ℕ, zero, suc, _+_, _-_}
 use mathlib.Core.List.{List, [], _∷_}
 use Rattle.meaning.specs.declared.Reading.{Reading}
 use Rattle.meaning.specs.declared.Level.{Level}
-use Rattle.meaning.specs.Answers.{Answer, given, refused, refuse_at_when_otherwise_, _giving_, _≤?_, _=?_}
-use Rattle.meaning.specs.OpenLevels.{TurnOf, RunOf, innermostOf, outerOf, runAfterOf}
-pub use Rattle.meaning.specs.OpenLevels.{stays, stores, ends}
+use Rattle.meaning.specs.Answers.{Answer, given, refused, refuse_at_when_otherwise_, _giving_, _≤?_, _=?_, if_then_else_}
+use Rattle.meaning.specs.OpenLevels.{TurnOf, RunOf, innermostOf, outerOf, renewedOf, runAfterOf}
+pub use Rattle.meaning.specs.OpenLevels.{stays, stores, names, ends}
 use Rattle.meaning.specs.RuleFile.{Rule, Move, noMove, to, letterMove, treeMove, treeStartMove}
 
 -- ---- events
@@ -29,13 +29,18 @@ mostEvents = 4294967295
 
 -- ---- a reading
 
--- the initial state and four zeros
+-- A level has a first letter, or this mark for none yet. The top's is kept in the reading, and that of an open level in its record.
+abbrev pub noLetter : ℕ
+noLetter = 65535
+
+-- the initial state, the mark and four zeros
 unfoldable pub freshReading : Rule → Reading
-freshReading R = record { state = R .initial; depth = 0; skip = 0; taken = 0; looks = 0 }
+freshReading R = record { state = R .initial; first = noLetter; depth = 0; skip = 0; taken = 0; looks = 0 }
 
 -- the reading after an event that was a look: its state and its stored depth, one event and one look more
 unfoldable pub looked : Reading → ℕ → ℕ → Reading
-looked r state depth = record { state = state; depth = depth; skip = r .skip; taken = r .taken + 1; looks = r .looks + 1 }
+looked r state depth =
+    record { state = state; first = r .first; depth = depth; skip = r .skip; taken = r .taken + 1; looks = r .looks + 1 }
 
 -- ---- a table look
 
@@ -61,19 +66,47 @@ look table place (to state) next = given (next state)
 
 -- ---- full reading of one event
 
--- The record that an open stores: the state above the new level and the place of the opening. A place is the count of
+-- The record that an open stores: the state above the new level, the mark and the place of the opening. A place is the count of
 -- events taken before the event in question.
 unfoldable pub newLevel : Reading → Level
-newLevel r = record { above = r .state; opened = r .taken }
+newLevel r = record { above = r .state; first = noLetter; opened = r .taken }
+
+-- only the mark is replaced by a letter
+unfoldable pub firstLetter : ℕ → ℕ → ℕ
+firstLetter first a = if first =? noLetter then a else first
+
+-- the reading with letter a on the top level
+unfoldable pub topNamed : ℕ → Reading → Reading
+topNamed a r =
+    record {
+      state = r .state;
+      first = firstLetter (r .first) a;
+      depth = r .depth;
+      skip = r .skip;
+      taken = r .taken;
+      looks = r .looks;
+    }
+
+-- the record of a level whose first letter is a
+unfoldable pub levelNamed : ℕ → Level → Level
+levelNamed a l = record { above = l .above; first = a; opened = l .opened }
+
+-- Letter a was looked up and taken, and r is the reading after the look. Only a level's first letter replaces the mark: at the top
+-- in the reading, on any other level in its record, which is then written anew.
+unfoldable pub letterTurn : ℕ → Level → Reading → Turn
+letterTurn a top r =
+    if r .depth =? 0
+    then stays (topNamed a r)
+    else (if top .first =? noLetter then names (levelNamed a top) r else stays r)
 
 -- `room` is the length of the level store, and `top` the record of the innermost open level, if there is one.
--- letter a: the state becomes the letter move of state and a;
--- open: the state and the place go to a record, the depth grows by one, the state becomes the tree start;
+-- letter a: the state becomes the letter move of state and a, and a is the level's first letter if it had none;
+-- open: the state, the mark and the place go to a record, the depth grows by one, the state becomes the tree start;
 -- close: the depth falls by one, and the state becomes the tree move of the state above and the old state.
 unfoldable pub fullTurn : Rule → ℕ → ℕ → Reading → Level → Event → Answer Turn
 fullTurn R room ceiling r top (letter a) =
     refuse 9 at r .taken when ceiling ≤? r .looks otherwise
-    look letterTable (r .taken) (letterMove R (r .state) a) (λ q. stays (looked r q (r .depth)))
+    look letterTable (r .taken) (letterMove R (r .state) a) (λ q. letterTurn a top (looked r q (r .depth)))
 fullTurn R room ceiling r top opens =
     refuse 8 at r .taken when room ≤? r .depth otherwise
     refuse 9 at r .taken when ceiling ≤? r .looks otherwise
@@ -100,13 +133,16 @@ Run = RunOf Reading Level
 
 -- a record that stands for nothing
 unfoldable pub blank : Level
-blank = record { above = 0; opened = 0 }
+blank = record { above = 0; first = 0; opened = 0 }
 
 abbrev pub innermost : List Level → Level
 innermost ls = innermostOf blank ls
 
 abbrev pub outer : List Level → List Level
 outer ls = outerOf ls
+
+abbrev pub renewed : Level → List Level → List Level
+renewed l ls = renewedOf l ls
 
 abbrev pub runAfter : List Level → Turn → Run
 runAfter ls turn = runAfterOf ls turn

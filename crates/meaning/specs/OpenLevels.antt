@@ -3,10 +3,12 @@ use Prim.Native.Nat.{ℕ, _-_}
 use mathlib.Core.List.{List, [], _∷_}
 use Rattle.meaning.specs.Answers.{Answer, given, _giving_}
 
--- What one event leads to, apart from the reading after it: the open levels stay, one more is stored, or the innermost ends.
+-- What one event leads to, apart from the reading after it: the open levels stay, one more is stored, the innermost is written anew,
+-- or it ends.
 pub data TurnOf (A L : Type 0) : Type 0 where
   stays : A → TurnOf A L
   stores : L → A → TurnOf A L
+  names : L → A → TurnOf A L
   ends : A → TurnOf A L
 
 -- ---- a reading with its open levels, the innermost first
@@ -25,9 +27,15 @@ unfoldable pub outerOf : {L : Type 0} → List L → List L
 outerOf [] = []
 outerOf (l ∷ ls) = ls
 
+-- the levels with the innermost one written anew
+unfoldable pub renewedOf : {L : Type 0} → L → List L → List L
+renewedOf l [] = []
+renewedOf l (old ∷ ls) = l ∷ ls
+
 unfoldable pub runAfterOf : {A L : Type 0} → List L → TurnOf A L → RunOf A L
 runAfterOf ls (stays r) = record { reading = r; levels = ls }
 runAfterOf ls (stores l r) = record { reading = r; levels = l ∷ ls }
+runAfterOf ls (names l r) = record { reading = r; levels = renewedOf l ls }
 runAfterOf ls (ends r) = record { reading = r; levels = outerOf ls }
 
 -- ---- a reading over a lent store
@@ -36,8 +44,9 @@ pub record StoredOf (A S : Type 0) : Type 0 where
   pub reading : A
   pub store : S
 
--- Only an open that is stored writes, at its depth; a close clears nothing.
+-- An open that is stored writes at its depth, and a level that is written anew is the innermost one; a close clears nothing.
 unfoldable pub storedAfterOf : {A L S : Type 0} → (S → ℕ → L → S) → ℕ → S → TurnOf A L → StoredOf A S
 storedAfterOf put depth store (stays r) = record { reading = r; store = store }
 storedAfterOf put depth store (stores l r) = record { reading = r; store = put store depth l }
+storedAfterOf put depth store (names l r) = record { reading = r; store = put store (depth - 1) l }
 storedAfterOf put depth store (ends r) = record { reading = r; store = store }

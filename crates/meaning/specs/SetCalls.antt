@@ -11,6 +11,7 @@ use Rattle.meaning.specs.RuleFile.{Rule, checkRule}
 use Rattle.meaning.specs.FullReading.{Went, feedBy}
 use Rattle.meaning.specs.SkipBook.{allBelow, listed, bit}
 use Rattle.meaning.specs.OpenLevels.{StoredOf, storedAfterOf}
+use Rattle.meaning.specs.Calls.{defaultCeiling}
 use Rattle.meaning.specs.StateSets.{mostSetStates}
 use Rattle.meaning.specs.Differences.{pair, stopped}
 use Rattle.meaning.specs.SetTurns.{freshSets, setEvent, setEndOf}
@@ -127,10 +128,6 @@ setFinishCall file r store = setCheck file r store giving λ R. setEndOf R r (se
 
 -- ---- the whole-document call
 
--- the default ceiling of a whole document (document 02, L7)
-abbrev pub setCeiling : ℕ
-setCeiling = 1000000
-
 -- the class at the end, and what the store then holds
 pub record SetWhole : Type 0 where
   pub answer : Answer ℕ
@@ -141,10 +138,10 @@ setFinishFed file w = w .ended giving λ done. setFinishCall file (w .last .read
 
 unfoldable pub setWholeFrom : Answer SetReading → List ℕ → SetStore → List ℕ → SetWhole
 setWholeFrom (given first) file store events =
-    let fed : Went SetStored = setFeedCall file setCeiling first store events in
+    let fed : Went SetStored = setFeedCall file defaultCeiling first store events in
     record { answer = setFinishFed file fed; store = fed .last .store }
 setWholeFrom (refused number place) file store events = record { answer = refused number place; store = store }
 
--- open, feed and finish in turn, from the reading that opening gave
+-- open, feed and finish in turn, from the reading that opening gave, under the ceiling of every whole-document call
 unfoldable pub setWholeDocument : List ℕ → SetStore → List ℕ → SetWhole
 setWholeDocument file store events = setWholeFrom (setOpenCall file) file store events

@@ -40,7 +40,7 @@ noneOr u (to q) = q =? u
 unfoldable pub Hold : Rule → ℕ → ℕ → Type 0
 Hold R u p = (p′ : ℕ) → Reach R p p′ → noneOr u (treeMove R u p′) ≡ true
 
--- ---- the sets in rounds, with a mark for each state, state 0 first
+-- ---- the same sets in marks, one for each state, state 0 first
 
 -- true of some number below n; true of every number below n
 unfoldable pub anyBelow : ℕ → (ℕ → Bool) → Bool
@@ -79,43 +79,25 @@ unfoldable pub rounds : (List Bool → List Bool) → ℕ → List Bool → List
 rounds step zero marks = marks
 rounds step (suc i) marks = step (rounds step i marks)
 
-abbrev pub mostRounds : ℕ
-mostRounds = 64
-
--- The states in which a tree can end: from the tree start, if there is one, with lower states from the set so far.
+-- The states in which a tree can end: from the tree start, if there is one, with lower states from the set so far. After as
+-- many rounds as the rule has states none adds a state.
 unfoldable pub startMarks : Rule → List Bool
 startMarks R = listed (R .states) (λ p. goesTo p (treeStartMove R))
 
 unfoldable pub endRound : Rule → List Bool → List Bool
 endRound R marks = round R marks marks
 
-unfoldable pub endsIn : Rule → ℕ → List Bool
-endsIn R i = rounds (endRound R) i (startMarks R)
-
 unfoldable pub endMarks : Rule → List Bool
-endMarks R = endsIn R mostRounds
+endMarks R = rounds (endRound R) (R .states) (startMarks R)
 
--- Reach(q): from q alone, with lower states in which a tree can end.
+-- Reach(q): from q alone, with lower states in which a tree can end, in as many rounds.
 unfoldable pub onlyState : Rule → ℕ → List Bool
 onlyState R q = listed (R .states) (λ p. p =? q)
 
-unfoldable pub reachedIn : Rule → ℕ → ℕ → List Bool
-reachedIn R i q = let lowers : List Bool = endMarks R in rounds (round R lowers) i (onlyState R q)
-
--- some state is marked in the second and not in the first
-unfoldable pub adds : Rule → List Bool → List Bool → Bool
-adds R before after = anyBelow (R .states) (λ p. marked after p && not (marked before p))
-
--- the 64th round still adds a state, to the set of the tree start or from some state
-unfoldable pub roundsUsedUp : Rule → Bool
-roundsUsedUp R =
-    adds R (endsIn R 63) (endsIn R mostRounds)
-    || anyBelow (R .states) (λ q. adds R (reachedIn R 63 q) (reachedIn R mostRounds q))
+unfoldable pub reachMarks : Rule → ℕ → List Bool
+reachMarks R q = let lowers : List Bool = endMarks R in rounds (round R lowers) (R .states) (onlyState R q)
 
 -- ---- the book
-
-unfoldable pub reachMarks : Rule → ℕ → List Bool
-reachMarks R q = reachedIn R mostRounds q
 
 unfoldable pub stillMarks : Rule → List Bool
 stillMarks R =
@@ -160,13 +142,9 @@ pub record IsBook (R : Rule) (book : List ℕ) : Type 0 where
 unfoldable pub bookCheck : Rule → List ℕ → Answer Unit
 bookCheck R book = refuse 6 at 0 when length book <? R .states + 1 otherwise given tt
 
--- After the rule check: a book shorter than n+1, rounds used up. Otherwise how many states are still, counted as the ones in
--- that word.
+-- After the rule check: a book shorter than n+1. Otherwise how many states are still, counted as the ones in that word.
 unfoldable pub makeBook : Rule → List ℕ → Answer ℕ
-makeBook R book =
-    bookCheck R book andThen
-    refuse 15 at 0 when roundsUsedUp R otherwise
-    given (ones (wordOf (stillMarks R)))
+makeBook R book = bookCheck R book andThen given (ones (wordOf (stillMarks R)))
 
 -- What the book holds after that answer: the words of the rule, and the words past them as they were. A refused call leaves it
 -- untouched.

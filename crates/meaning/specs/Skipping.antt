@@ -24,9 +24,10 @@ settled book r top = inStill book (r .state) || held book r top
 
 -- ---- one event
 
--- the reading after an event that is no look: one event more
+-- the reading after an event that is no look: one event more; a letter that is passed over is no level's first letter
 unfoldable pub passed : Reading → ℕ → ℕ → ℕ → Reading
-passed r state depth skip = record { state = state; depth = depth; skip = skip; taken = r .taken + 1; looks = r .looks }
+passed r state depth skip =
+    record { state = state; first = r .first; depth = depth; skip = skip; taken = r .taken + 1; looks = r .looks }
 
 -- a close at skip depth zero ends the level: if the state is in hold(u), the state becomes u without a look; otherwise
 -- as in full reading

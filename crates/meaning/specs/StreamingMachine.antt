@@ -7,8 +7,8 @@ use lib.ListN.{length}
 use Rattle.meaning.specs.declared.Level.{Level}
 use Rattle.meaning.specs.Answers.{given}
 use Rattle.meaning.specs.RuleFile.{Rule, to, letterMove, treeMove, treeStartMove}
-use Rattle.meaning.specs.FullReading.{mostEvents, Run, Went}
-use Rattle.meaning.specs.Hedges.{Hedge, eventsOf, Goes, deepest}
+use Rattle.meaning.specs.FullReading.{mostEvents, Run, innermost, runAfter, noLetter, firstLetter, letterTurn, Went}
+use Rattle.meaning.specs.Hedges.{Hedge, ε, _·_, ⟨_⟩·_, eventsOf, Goes, deepest}
 
 -- from a state and a stack, by some events, to a state and a stack
 pub data Streams (R : Rule) : ℕ → List ℕ → List ℕ → ℕ → List ℕ → Type 0 where
@@ -52,6 +52,18 @@ pub record Arrives (w : Went Run) (q : ℕ) (σ : List ℕ) : Type 0 where
   pub inState : w .last .reading .state ≡ q
   pub withStack : aboves (w .last .levels) ≡ σ
   pub stored : w .last .reading .depth ≡ length (w .last .levels)
+
+-- ---- first letters
+
+-- a run on whose level letter a was taken: only the mark is replaced
+unfoldable pub named : ℕ → Run → Run
+named a m = runAfter (m .levels) (letterTurn a (innermost (m .levels)) (m .reading))
+
+-- the first letter of a hedge that stands in none of its trees, or the mark if there is none
+unfoldable pub firstIn : Hedge → ℕ
+firstIn ε = noLetter
+firstIn (a · h) = firstLetter a (firstIn h)
+firstIn (⟨ h ⟩· g) = firstIn g
 
 -- feeding took all events, and came to a state with these levels
 pub record Comes (fed : Went Run) (q : ℕ) (levels : List Level) : Type 0 where

@@ -26,19 +26,26 @@ pub enum End {
     Refused(Refusal),
 }
 
-// A reading: the current state, the stored depth, the skip depth, the events taken and the looks made.
+// The mark of a level that has no letter yet. With 256 letters 255 is a real one, so a first letter is 16 bits wide.
+pub const NO_LETTER: u16 = 65535;
+
+// A reading: the current state, the stored depth, the skip depth, the events taken, the looks made, and the first letter of the
+// top level or the mark.
 pub struct Reading {
     pub state: u8,
+    pub first: u16,
     pub depth: u32,
     pub skip: u32,
     pub taken: u32,
     pub looks: u32,
 }
 
-// One record of the level store: the state above the level, and the place of its opening.
+// One record of the level store: the state above the level, the level's first letter or the mark, and the place of its
+// opening. Laid out as C lays it out it has 8 bytes: the state at 0, the letter at 2, the place at 4.
 #[repr(C)]
 pub struct Level {
     pub above: u8,
+    pub first: u16,
     pub opened: u32,
 }
 
@@ -51,6 +58,12 @@ pub struct Opening {
 // What opening answers: a reading that is ready to be fed, with the still count, or a refusal.
 pub enum Opened {
     Ready(Opening),
+    Refused(Refusal),
+}
+
+// What the path answers: how many letters were laid, or a refusal.
+pub enum Traced {
+    Letters(usize),
     Refused(Refusal),
 }
 

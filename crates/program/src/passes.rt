@@ -27,6 +27,7 @@ fn no_levels() -> [Level; 1024]
 {
     let none = Level {
         above: 0,
+        first: 0,
         opened: 0,
     };
     [none; 1024]

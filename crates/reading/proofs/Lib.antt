@@ -4,3 +4,5 @@ pub mod WholeRead
 pub mod OneOutcome
 pub mod Passed
 pub mod Called
+pub mod Laid
+pub mod Traces

@@ -11,8 +11,11 @@ use Rattle.meaning.specs.declared.End.{End}
 use Rattle.meaning.specs.declared.Fed.{Fed}
 use Rattle.meaning.specs.declared.Level.{Level}
 use Rattle.meaning.specs.declared.Reading.{Reading}
-use Rattle.meaning.proofs.stores.OneAnswer.{opened-says, feeding-says, end-says}
+use Rattle.meaning.specs.declared.Traced.{Traced}
+use Rattle.meaning.specs.Answers.{Answer}
+use Rattle.meaning.proofs.stores.OneAnswer.{opened-says, feeding-says, end-says, traced-says}
 use Rattle.reading.specs.Feeding.{FedIs}
+use Rattle.reading.specs.Tracing.{PathIs}
 use Rattle.reading.specs.Whole.{ReadIs}
 
 -- open has `opened-says`, and the book is an equation; finish has `end-says`
@@ -28,6 +31,11 @@ fed-one {a = a} {b = b} h k =
     let reading : a .reading ≡ b .reading = h .readingIs ∙ sym (k .readingIs) in
     let ended : a .ended ≡ b .ended = feeding-says (a .ended) (b .ended) (h .endedIs ∙ sym (k .endedIs)) in
     (λ i. record { taken = taken i; reading = reading i; ended = ended i }, h .storeIs ∙ sym (k .storeIs))
+
+-- the path
+pub path-one : {answer : Answer ℕ} {laid : List ℕ} {a b : Traced} {l₁ l₂ : List ℕ}
+    → PathIs answer laid a l₁ → PathIs answer laid b l₂ → (a ≡ b) × (l₁ ≡ l₂)
+path-one {a = a} {b = b} h k = (traced-says a b (h .answerIs ∙ sym (k .answerIs)), h .lettersIs ∙ sym (k .lettersIs))
 
 -- the whole-document call
 pub read-one : {w : calls.Whole} {a b : End} {b₁ b₂ : List ℕ} {s₁ s₂ : List Level}

@@ -8,7 +8,7 @@ use lib.ListN.{length}
 use Rattle.meaning.specs.Answers.{Answer, given, refused, _giving_}
 use Rattle.meaning.specs.RuleFile.{ruleOf}
 use Rattle.meaning.specs.FullReading.{Went, feedBy}
-use Rattle.meaning.specs.Calls.{Stored, refusalSays, feedingSays, endSays, openCall, openedBook, storeStep, topOf, endOf, finishFed, largestCeiling, readWith, wholeDocument}
+use Rattle.meaning.specs.Calls.{Stored, refusalSays, feedingSays, endSays, openCall, openedBook, storeStep, topOf, endOf, finishFed, defaultCeiling, readWith, wholeDocument}
 use Rattle.meaning.specs.declared.End.{End}
 use Rattle.meaning.specs.declared.Reading.{Reading}
 use Rattle.meaning.specs.declared.Opening.{Opening}
@@ -31,9 +31,9 @@ use Rattle.turning.specs.declared.Going.{Going}
 use Rattle.turning.proofs.Steps.{turn-ready}
 use Rattle.turning.proofs.Turned.{states-are}
 
--- what feeding a first reading with the largest ceiling comes to
+-- what feeding a first reading with the call's ceiling comes to
 abbrev pub readAll : List ℕ → List ℕ → Reading → List Level → List ℕ → Went Stored
-readAll file book first store events = feedBy (storeStep (ruleOf file) book largestCeiling) (over first store) events
+readAll file book first store events = feedBy (storeStep (ruleOf file) book defaultCeiling) (over first store) events
 
 -- the reading that opening gave may be fed with the book that it wrote, over any store
 opened-feeds : (file book : List ℕ) {o : Opening} {rule : Rule} → openCall file book ≡ given o → RuleOf file rule → (store : List Level)
@@ -79,13 +79,13 @@ module _ (file book : List ℕ) where
 
   -- what is left to come of where it begins
   rest-refused : (store : List Level) (events : List ℕ) (g : Going) {f : Refusal} → g .ended ≡ feeding.Refused f
-      → rest (ruleOf file) (openedBook file book) largestCeiling store events g ≡ record { last = over (g .reading) store; ended = refusalSays f }
+      → rest (ruleOf file) (openedBook file book) defaultCeiling store events g ≡ record { last = over (g .reading) store; ended = refusalSays f }
   unfolding rest restOf
   rest-refused store events g e = rw (e, restOf)
 
   rest-opened : (store : List Level) (events : List ℕ) (g : Going) {first : Reading}
       → g ≡ record { reading = first; next = 0; ended = feeding.AllTaken }
-      → rest (ruleOf file) (openedBook file book) largestCeiling store events g ≡ readAll file (openedBook file book) first store events
+      → rest (ruleOf file) (openedBook file book) defaultCeiling store events g ≡ readAll file (openedBook file book) first store events
   unfolding rest restOf
   rest-opened store events g e = rw e
 
@@ -103,7 +103,7 @@ module _ (file book : List ℕ) where
         (record { within = omega arith; taken = λ _. refl; feeds = λ _. opened-feeds file book e (first .0) store }))
 
     module _ (g : Going) {room : ℕ} {store′ : List Level}
-        (gone : Gone (rest (ruleOf file) (openedBook file book) largestCeiling store events (b .going)) (b .going .reading) room g store′) where
+        (gone : Gone (rest (ruleOf file) (openedBook file book) defaultCeiling store events (b .going)) (b .going .reading) room g store′) where
       -- where it has come to its end, the reading may be ended
       pub document-needs : g .ended ≡ feeding.AllTaken → RuleOf file (b .rule) × (g .reading .state < b .rule .states)
       unfolding feedingSays refusalSays
@@ -119,7 +119,7 @@ module _ (file book : List ℕ) where
           let feeds = opened-feeds file book e (first .0) store in
           let came : readAll file (openedBook file book) (o .reading) store events ≡ record { last = over (g .reading) store′; ended = feedingSays (g .ended) }
           = sym (rest-opened store events (b .going) (first .1)) ∙ gone .comes in
-          let still = rw came at (feeding-keeps-reading (accepted-is-rule file (first .0 .accepted)) (openedBook file book) largestCeiling (over (o .reading) store) events (feeds .isReading)) in
+          let still = rw came at (feeding-keeps-reading (accepted-is-rule file (first .0 .accepted)) (openedBook file book) defaultCeiling (over (o .reading) store) events (feeds .isReading)) in
           (first .0, turn-ready (record { ruled = first .0; bookLong = feeds .bookLong; isReading = still }) .states .stateIn))
 
       -- and the answer of its end is the call's

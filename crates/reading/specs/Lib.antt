@@ -1,3 +1,4 @@
 pub mod Feeding
 pub mod Checks
 pub mod Whole
+pub mod Tracing

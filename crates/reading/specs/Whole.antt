@@ -30,10 +30,10 @@ pub record ReadIs (w : calls.Whole) (r : End) (book : List ℕ) (store : List Le
 
 -- ---- where feeding begins
 
--- the reading that opening gave, or five zeros
+-- the reading that opening gave, or six zeros
 unfoldable pub openedReading : Opened → Reading
 openedReading (opened.Ready o) = o .reading
-openedReading (opened.Refused r) = record { state = 0; depth = 0; skip = 0; taken = 0; looks = 0 }
+openedReading (opened.Refused r) = record { state = 0; first = 0; depth = 0; skip = 0; taken = 0; looks = 0 }
 
 -- what opening refused, or else a rule check
 unfoldable pub checkOpened : Answer Rule → Opened → Answer Rule

@@ -2,6 +2,7 @@
 use levels::level_at;
 use levels::room;
 use meaning::Level;
+use meaning::NO_LETTER;
 use meaning::Reading;
 use meaning::Refusal;
 use rule::Checked;
@@ -16,12 +17,11 @@ ghost use Prim.Native.Nat.{ℕ, _≤_, _<_};
 ghost use lib.ListN.{length};
 ghost use Rattle.meaning.specs.Answers.{_<?_};
 ghost use Rattle.meaning.specs.RuleFile as format;
-ghost use Rattle.meaning.specs.RuleFile.{isState};
 ghost use Rattle.meaning.specs.Skipping.{settled};
-ghost use Rattle.meaning.specs.Calls.{notReading};
-ghost use Rattle.rule.specs.Says.{checkedSays, checkAnswer};
+ghost use Rattle.meaning.specs.Calls.{isFirst, notReading};
+ghost use Rattle.rule.specs.Says.{numbersOf, checkedSays, checkAnswer};
 ghost use Rattle.turning.specs.Turns.{BookServes};
-ghost use Rattle.reading.specs.Checks.{abovesIn, ruleIn, Seen, readingAnswer};
+ghost use Rattle.reading.specs.Checks.{recordIn, recordsIn, ruleIn, Seen, readingAnswer};
 
 // The rule that a check gave, or four zeros.
 pub fn rule_in(checked: Checked) -> Rule
@@ -38,25 +38,38 @@ pub fn rule_in(checked: Checked) -> Rule
     }
 }
 
-// Whether a stored state is below n, and those before it are.
-pub fn inside_with(inside: bool, level: Level, states: u8) -> bool
-    ensures { λ r. ⌜ r ≡ (inside && isState states (level .above)) ⌝ }
+// Whether a first letter is one of the rule's, or the mark.
+fn is_first(letters: u16, first: u16) -> bool
+    ensures { λ r. ⌜ r ≡ isFirst letters first ⌝ }
 {
-    if inside {
-        return level.above < states;
+    if first < letters {
+        return true;
     }
-    false
+    first == NO_LETTER
 }
 
-// Whether the stored states below the depth are all below n.
-pub fn stored_in(levels: &[Level], depth: usize, states: u8) -> bool
-    ensures { λ r. ⌜ r ≡ abovesIn states depth (now (levels .entry)) ⌝ }
+// Whether a record holds what it may, its state below n and its letter below k or the mark, and those before it do.
+pub fn inside_with(inside: bool, level: Level, rule: Rule) -> bool
+    ensures { λ r. ⌜ r ≡ (inside && recordIn rule level) ⌝ }
+{
+    if !inside {
+        return false;
+    }
+    if rule.states <= level.above {
+        return false;
+    }
+    is_first(rule.letters, level.first)
+}
+
+// Whether the records below the depth all hold what they may.
+pub fn stored_in(levels: &[Level], depth: usize, rule: Rule) -> bool
+    ensures { λ r. ⌜ r ≡ recordsIn rule depth (now (levels .entry)) ⌝ }
 {
     let mut inside = true;
     let mut i = 0;
     while i < depth {
         let level = level_at(levels, i);
-        inside = inside_with(inside, level, states);
+        inside = inside_with(inside, level, rule);
         i += 1;
     }
     inside
@@ -85,13 +98,23 @@ fn skips_unsettled(book: &[u64], reading: Reading, top: Level) -> bool
     !is_settled(book, reading, held)
 }
 
-// Number 13: whether what was handed in is not a reading of a rule with so many states, from what was seen of the level
-// store: its length, whether the stored states are states, and the innermost record.
-fn not_reading(n: u8, book: &[u64], reading: Reading, room: usize, inside: bool, top: Level) -> bool
-    requires { ⌜ n ≤ 64 ⌝ ∗ ⌜ n < length (now book) ⌝ ∗ ⌜ ((store : List Level) × Seen n reading store room inside top) ⌝ }
-    ensures { λ r. ⌜ ((R : format.Rule) (store : List Level) → R .states ≡ n → Seen n reading store room inside top → r ≡ notReading R (now (book .entry)) reading store) ⌝ }
+// Number 13: whether what was handed in is not a reading of the rule, from what was seen of the level store: its length,
+// whether the records hold what they may, and the innermost one.
+fn not_reading(
+    rule: Rule,
+    book: &[u64],
+    reading: Reading,
+    room: usize,
+    inside: bool,
+    top: Level,
+) -> bool
+    requires { ⌜ rule .states ≤ 64 ⌝ ∗ ⌜ rule .states < length (now book) ⌝ ∗ ⌜ ((store : List Level) × Seen rule reading store room inside top) ⌝ }
+    ensures { λ r. ⌜ ((R : format.Rule) (store : List Level) → numbersOf R ≡ rule → Seen rule reading store room inside top → r ≡ notReading R (now (book .entry)) reading store) ⌝ }
 {
-    if n <= reading.state {
+    if rule.states <= reading.state {
+        return true;
+    }
+    if !is_first(rule.letters, reading.first) {
         return true;
     }
     if room < reading.depth as usize {
@@ -118,8 +141,8 @@ pub fn reading_answer(
     inside: bool,
     top: Level,
 ) -> Checked
-    requires { ⌜ ((file : List ℕ) × (checkedSays checked ≡ checkAnswer file)) ⌝ ∗ ⌜ ((store : List Level) × Seen (ruleIn checked .states) reading store room inside top) ⌝ }
-    ensures { λ r. ⌜ ((file : List ℕ) (store : List Level) → checkedSays checked ≡ checkAnswer file → Seen (ruleIn checked .states) reading store room inside top → checkedSays r ≡ readingAnswer file (now (book .entry)) reading store) ⌝ }
+    requires { ⌜ ((file : List ℕ) × (checkedSays checked ≡ checkAnswer file)) ⌝ ∗ ⌜ ((store : List Level) × Seen (ruleIn checked) reading store room inside top) ⌝ }
+    ensures { λ r. ⌜ ((file : List ℕ) (store : List Level) → checkedSays checked ≡ checkAnswer file → Seen (ruleIn checked) reading store room inside top → checkedSays r ≡ readingAnswer file (now (book .entry)) reading store) ⌝ }
 {
     match checked {
         Checked::Refused(refusal) => Checked::Refused(refusal),
@@ -130,7 +153,7 @@ pub fn reading_answer(
                     place: 0,
                 });
             }
-            if not_reading(rule.states, book, reading, room, inside, top) {
+            if not_reading(rule, book, reading, room, inside, top) {
                 return Checked::Refused(Refusal {
                     number: 13,
                     place: 0,
@@ -149,7 +172,7 @@ pub fn admit(file: &[u8], book: &[u64], reading: Reading, levels: &[Level]) -> C
     let rule = rule_in(checked);
     let count = room(levels);
     let depth = depth_within(reading, count);
-    let inside = stored_in(levels, depth, rule.states);
+    let inside = stored_in(levels, depth, rule);
     let place = top_place(reading);
     let top = level_at(levels, place);
     reading_answer(checked, book, reading, count, inside, top)

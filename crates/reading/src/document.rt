@@ -14,8 +14,8 @@ ghost use Rattle.meaning.specs.Calls.{openedSays};
 ghost use Rattle.rule.specs.Says.{checkedSays, checkAnswer};
 ghost use Rattle.reading.specs.Whole.{checkOpened, Begins};
 
-// The largest ceiling.
-pub const LARGEST_CEILING: u32 = 4294967295;
+// The ceiling of a whole document, so that a runaway one comes to an end.
+pub const DEFAULT_CEILING: u32 = 1000000;
 
 // Where feeding begins, and the rule that it goes by.
 pub struct Begun {

@@ -5,10 +5,11 @@ mod document;
 mod ending;
 mod feeding;
 mod opening;
+mod tracing;
 
 use checking::admit;
 use checking::rule_in;
-use document::LARGEST_CEILING;
+use document::DEFAULT_CEILING;
 use document::begin;
 use ending::end_checked;
 use ending::end_fed;
@@ -21,13 +22,18 @@ use meaning::Fed;
 use meaning::Level;
 use meaning::Opened;
 use meaning::Reading;
+use meaning::Traced;
 use opening::open_rule;
 use rule::Checked;
 use rule::Rule;
+use tracing::lay_path;
+use tracing::letters_in;
+use tracing::traced_of;
 use turning::advancing::top_place;
 ghost use mathlib.Core.Path.{_≡_};
-ghost use Rattle.meaning.specs.Calls.{openedSays, openCall, openedBook, endSays, feedCall, finishCall, wholeDocument};
+ghost use Rattle.meaning.specs.Calls.{openedSays, openCall, openedBook, endSays, feedCall, finishCall, pathCall, pathLaid, wholeDocument};
 ghost use Rattle.reading.specs.Feeding.{FedIs};
+ghost use Rattle.reading.specs.Tracing.{PathIs};
 ghost use Rattle.reading.specs.Whole.{openedReading, ReadIs};
 
 // What feeding answers over levels of one's own: the answer, and the levels after it.
@@ -48,7 +54,7 @@ pub fn open(file: &[u8], book: &mut [u64]) -> Opened
     }
 }
 
-// The reading that opening gave, or five zeros where it refused.
+// The reading that opening gave, or six zeros where it refused.
 pub fn first_of(opened: Opened) -> Reading
     ensures { λ r. ⌜ r ≡ openedReading opened ⌝ }
 {
@@ -56,6 +62,7 @@ pub fn first_of(opened: Opened) -> Reading
         Opened::Ready(opening) => opening.reading,
         Opened::Refused(_) => Reading {
             state: 0,
+            first: 0,
             depth: 0,
             skip: 0,
             taken: 0,
@@ -92,6 +99,24 @@ pub fn finish(file: &[u8], book: &[u64], reading: Reading, levels: &[Level]) -> 
     end_checked(file, checked, reading, top)
 }
 
+// The path to where a reading stands: the top's first letter, then that of each stored level from the outermost to the innermost,
+// marks included, laid into the lent slice; the rest of it stays. After a refused feed it shows the way to the refused event.
+pub fn path(
+    file: &[u8],
+    book: &[u64],
+    reading: Reading,
+    levels: &[Level],
+    letters: &mut [u16],
+) -> Traced
+    ensures { λ r. ⌜ PathIs (pathCall (now (file .entry)) (now (book .entry)) reading (now (levels .entry)) (now (letters .entry))) (pathLaid (now (file .entry)) (now (book .entry)) reading (now (levels .entry)) (now (letters .entry))) r (now (letters .exit)) ⌝ }
+{
+    let checked = admit(file, book, reading, levels);
+    let traced = traced_of(checked, reading, letters.len());
+    let count = letters_in(traced);
+    lay_path(levels, reading.first, count, &mut *letters);
+    traced
+}
+
 // Feed over levels of one's own, for a caller that holds them by value.
 pub fn feed_array(
     file: &[u8],
@@ -115,7 +140,8 @@ pub fn finish_array(file: &[u8], book: &[u64], reading: Reading, levels: [Level;
     finish(file, book, reading, &levels)
 }
 
-// A whole document: it opens, feeds and finishes, with the largest ceiling.
+// A whole document: it opens, feeds and finishes, with a ceiling of 1,000,000 looks. Whoever wants
+// another feeds and finishes himself.
 pub fn read_document(file: &[u8], book: &mut [u64], levels: &mut [Level], events: &[u16]) -> End
     ensures { λ r. ⌜ ReadIs (wholeDocument (now (file .entry)) (now (book .entry)) (now (levels .entry)) (now (events .entry))) r (now (book .exit)) (now (levels .exit)) ⌝ }
 {
@@ -124,7 +150,7 @@ pub fn read_document(file: &[u8], book: &mut [u64], levels: &mut [Level], events
         file,
         begun.rule,
         &*book,
-        LARGEST_CEILING,
+        DEFAULT_CEILING,
         begun.going,
         &mut *levels,
         events,

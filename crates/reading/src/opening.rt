@@ -1,6 +1,7 @@
 // Opening an accepted rule: its book is made, and a reading of it is fresh.
 use book::Made;
 use book::make_book;
+use meaning::NO_LETTER;
 use meaning::Opened;
 use meaning::Opening;
 use meaning::Reading;
@@ -13,12 +14,13 @@ ghost use Rattle.meaning.specs.FullReading.{freshReading};
 ghost use Rattle.meaning.specs.Calls.{openedSays, openCall, openedBook};
 ghost use Rattle.rule.specs.Says.{RuleOf};
 
-// The initial state and four zeros.
+// The initial state, the mark and four zeros.
 fn fresh_reading(rule: Rule) -> Reading
     ensures { λ r. ⌜ ((file : List ℕ) → RuleOf file rule → r ≡ freshReading (ruleOf file)) ⌝ }
 {
     Reading {
         state: rule.initial,
+        first: NO_LETTER,
         depth: 0,
         skip: 0,
         taken: 0,

@@ -72,6 +72,8 @@ module _ {file : List ℕ} {rule : Rule} {book : List ℕ} {r : Reading} {store 
         skipsSettled = λ deep. on-settled book r store _ _ (o .staysSettled (was .skipsSettled) deep);
         nested = o .nested;
         looksIn = omega (arith, was .looksIn);
+        firstIn = was .firstIn;
+        firstsIn = was .firstsIn;
       } in
       record {
         ruled = h .ruled;

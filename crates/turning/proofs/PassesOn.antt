@@ -148,17 +148,3 @@ module _ (k : ℕ) (r : Reading) (events : List ℕ) (from : ℕ) where
         staysSettled = λ skips deep. is;
         feeds = λ R ceiling store letters isTop. rw (left .0, left .1) (h .feeds book R ceiling store letters (rw isTop is));
       }
-
--- nothing was passed over
-pub passes-none : (k : ℕ) (book : List ℕ) (r : Reading) (top : Level) (events : List ℕ) (i : ℕ) → i ≤ length events
-    → r .depth + r .skip ≤ r .taken → PassesOver k book r top events i (record { reading = r; next = i })
-passes-none k book r top events i within nested =
-    let n : i - i ≡ 0 = omega arith in
-    record {
-      further = omega arith;
-      within = within;
-      same = rw (n, on-none r);
-      nested = omega arith;
-      staysSettled = λ skips deep. skips deep;
-      feeds = λ R ceiling store letters isTop. refl;
-    }

@@ -9,7 +9,7 @@ use borrow.Author.Tests.{ne-eqb, leb-true, lt-leb, ltb-true}
 use lib.ListN.{length}
 use Rattle.meaning.specs.Answers.{Answer, given, refused, refuse_at_when_otherwise_, if_then_else_, _≤?_, _=?_}
 use Rattle.meaning.specs.RuleFile.{none, mostStates, mostLetters, classCount, asMove, classOf, isClass, isStates, isLetters, ruleOf, to, noMove, treeStartMove}
-use Rattle.meaning.specs.FullReading.{opens, closes, letter, eventOf, mostEvents, knownEvent, look, looked, newLevel, fullTurn, Turn, stays, stores, ends}
+use Rattle.meaning.specs.FullReading.{opens, closes, letter, eventOf, mostEvents, knownEvent, look, looked, newLevel, letterTurn, fullTurn, Turn, stores, ends}
 use Rattle.meaning.specs.SkipBook.{inStill}
 use Rattle.meaning.specs.Skipping.{held, settled}
 use Rattle.meaning.specs.declared.Reading.{Reading}
@@ -163,7 +163,7 @@ module _ {file : List ℕ} {rule : Rule} (h : RuleOf file rule) where
 
   pub letter-turn : (room ceiling : ℕ) (r : Reading) (top : Level) (a : ℕ) → r .state < rule .states → a < rule .letters
       → fullTurn (ruleOf file) room ceiling r top (letter a)
-      ≡ lookAt ceiling r LetterMoves (letterByte file (rule .letters) (r .state) a) (λ q. stays (looked r q (r .depth)))
+      ≡ lookAt ceiling r LetterMoves (letterByte file (rule .letters) (r .state) a) (λ q. letterTurn a top (looked r q (r .depth)))
   unfolding fullTurn tableSays
   letter-turn room ceiling r top a hq ha =
       rw (← letters-are, letter-look file (h .accepted) (r .state) a (omega (arith, states-are)) (omega (arith, letters-are)))

@@ -76,7 +76,8 @@ pub record Ahead (from count end r : ℕ) : Type 0 where
 
 -- the reading after so many events that were no look and left it on its level
 unfoldable pub passedOn : Reading → ℕ → ℕ → Reading
-passedOn r skip count = record { state = r .state; depth = r .depth; skip = skip; taken = r .taken + count; looks = r .looks }
+passedOn r skip count =
+    record { state = r .state; first = r .first; depth = r .depth; skip = skip; taken = r .taken + count; looks = r .looks }
 
 pub record PassesOver (k : ℕ) (book : List ℕ) (r : Reading) (top : Level) (events : List ℕ) (i : ℕ) (p : PassedTo) : Type 0 where
   pub further : i ≤ p .next

@@ -4,9 +4,9 @@ use mathlib.Core.Path.{_≡_}
 use mathlib.Core.Bool.{Bool, false}
 use mathlib.Core.List.{List}
 use lib.ListN.{length}
-use Rattle.meaning.specs.Answers.{Answer, given, refused, if_then_else_, _≤?_}
+use Rattle.meaning.specs.Answers.{Answer, given, refused, if_then_else_, _=?_, _≤?_}
 use Rattle.meaning.specs.FullReading as full
-use Rattle.meaning.specs.FullReading.{stays, stores, ends, mostEvents, noMoveNumber}
+use Rattle.meaning.specs.FullReading.{stays, stores, names, ends, mostEvents, noMoveNumber}
 use Rattle.meaning.specs.RuleFile.{ruleOf}
 use Rattle.meaning.specs.Calls.{Stored, notReading}
 use Rattle.meaning.specs.Skipping.{held, settled}
@@ -26,6 +26,7 @@ use Rattle.turning.specs.declared.turns.LookedUp.the-variants as look
 unfoldable pub turnSays : Reading → Turn → Answer full.Turn
 turnSays before (turn.Stays r) = given (stays r)
 turnSays before (turn.Stores l r) = given (stores l r)
+turnSays before (turn.Names l r) = given (names l r)
 turnSays before (turn.Ends r) = given (ends r)
 turnSays before (turn.Refused number) = refused number (before .taken)
 
@@ -37,6 +38,10 @@ foundAnswer (move.NoneIn table) = look.Refused (noMoveNumber (tableSays table))
 -- what a look comes to: the ceiling first, and then what was found
 unfoldable pub lookAnswer : ℕ → Reading → Move → LookedUp
 lookAnswer ceiling r found = if ceiling ≤? r .looks then (look.Refused 9) else (foundAnswer found)
+
+-- the first letter of the level that a reading stands on, or the mark: the top's is in the reading, any other's in its record
+unfoldable pub levelFirst : Level → Reading → ℕ
+levelFirst top r = if r .depth =? 0 then (r .first) else (top .first)
 
 -- the state, and the state above if there is one, are states of the rule
 pub record StatesIn (rule : Rule) (r : Reading) (top : Level) : Type 0 where

@@ -2,7 +2,7 @@
 use crate::Advance;
 use crate::Going;
 use crate::Turn;
-use crate::passing::pass_settled;
+use crate::passing::pass_over;
 use crate::settling::is_held;
 use crate::settling::is_settled;
 use crate::turns::skip_event;
@@ -90,6 +90,15 @@ fn take_event(
                 level,
             }
         }
+        Turn::Names(level, after) => Advance {
+            going: Going {
+                reading: after,
+                next: following,
+                ended: Feeding::AllTaken,
+            },
+            place: top_place(reading),
+            level,
+        },
         Turn::Refused(number) => {
             let place = reading.taken as usize;
             let ended = Feeding::Refused(Refusal { number, place });
@@ -106,8 +115,8 @@ fn take_event(
     }
 }
 
-// One turn: what can be passed over where the reading stands is taken at once, and then the next event, if one is left. The
-// book is asked once: what is passed over leaves the level as it was.
+// One turn: the next event, and on a settled level before it what can be passed over, all at once. The book is asked once: what
+// is passed over leaves the level as it was. An unsettled level is told apart first, so that full reading asks nothing else.
 pub fn advance(
     file: &[u8],
     rule: Rule,
@@ -124,29 +133,43 @@ pub fn advance(
 {
     let held = is_held(book, reading, top);
     let settled = is_settled(book, reading, held);
-    let passed = pass_settled(rule.letters, settled, reading, events, next);
-    let after = passed.reading;
-    if passed.next < events.len() {
-        return take_event(
-            file,
-            rule,
-            held,
-            settled,
-            room,
-            ceiling,
-            after,
-            top,
-            events,
-            passed.next,
-        );
+    if settled {
+        let passed = pass_over(rule.letters, reading, events, next);
+        let after = passed.reading;
+        if passed.next < events.len() {
+            return take_event(
+                file,
+                rule,
+                held,
+                true,
+                room,
+                ceiling,
+                after,
+                top,
+                events,
+                passed.next,
+            );
+        }
+        return Advance {
+            going: Going {
+                reading: after,
+                next: passed.next,
+                ended: Feeding::AllTaken,
+            },
+            place: room,
+            level: top,
+        };
     }
-    Advance {
-        going: Going {
-            reading: after,
-            next: passed.next,
-            ended: Feeding::AllTaken,
-        },
-        place: room,
-        level: top,
-    }
+    take_event(
+        file,
+        rule,
+        held,
+        false,
+        room,
+        ceiling,
+        reading,
+        top,
+        events,
+        next,
+    )
 }

@@ -9,12 +9,13 @@ use meaning::Feeding;
 use meaning::Level;
 use meaning::Reading;
 
-// What one event leads to: the open levels stay, a record is stored for one more level, the innermost level ends, or
-// the event is refused with a number. The place of a refused event is the count of events taken before it, which the
-// reading has.
+// What one event leads to: the open levels stay, a record is stored for one more level, the innermost level's record is
+// written anew, that level ends, or the event is refused with a number. The place of a refused event is the count of events
+// taken before it, which the reading has.
 pub enum Turn {
     Stays(Reading),
     Stores(Level, Reading),
+    Names(Level, Reading),
     Ends(Reading),
     Refused(u8),
 }

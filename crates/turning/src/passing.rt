@@ -236,6 +236,7 @@ fn left_at(reading: Reading, skip: u32, from: usize, next: usize) -> PassedTo
     PassedTo {
         reading: Reading {
             state: reading.state,
+            first: reading.first,
             depth: reading.depth,
             skip,
             taken,
@@ -246,7 +247,7 @@ fn left_at(reading: Reading, skip: u32, from: usize, next: usize) -> PassedTo
 }
 
 // On a settled level events are taken by counting alone, up to the close that ends the level or an event that is refused.
-fn pass_over(letters: u16, reading: Reading, events: &[u16], from: usize) -> PassedTo
+pub fn pass_over(letters: u16, reading: Reading, events: &[u16], from: usize) -> PassedTo
     requires { ⌜ Counted reading ⌝ ∗ ⌜ letters ≤ 256 ⌝ ∗ ⌜ from ≤ length (now events) ⌝ }
     ensures { λ r. ⌜ ((book : List ℕ) (top : Level) → skipping.settled book reading top ≡ true → PassesOver letters book reading top (now (events .entry)) from r) ⌝ }
 {
@@ -265,24 +266,4 @@ fn pass_over(letters: u16, reading: Reading, events: &[u16], from: usize) -> Pas
         stop = ahead(i, BLOCK, end);
     }
     left_at(reading, skip, from, i)
-}
-
-// What can be passed over from here: nothing, unless the level is settled.
-pub fn pass_settled(
-    letters: u16,
-    settled: bool,
-    reading: Reading,
-    events: &[u16],
-    from: usize,
-) -> PassedTo
-    requires { ⌜ Counted reading ⌝ ∗ ⌜ letters ≤ 256 ⌝ ∗ ⌜ from ≤ length (now events) ⌝ }
-    ensures { λ r. ⌜ ((book : List ℕ) (top : Level) → settled ≡ skipping.settled book reading top → PassesOver letters book reading top (now (events .entry)) from r) ⌝ }
-{
-    if settled {
-        return pass_over(letters, reading, events, from);
-    }
-    PassedTo {
-        reading,
-        next: from,
-    }
 }

@@ -2,6 +2,7 @@
 // Each function answers what the definition of its name says.
 use crate::Turn;
 use meaning::Level;
+use meaning::NO_LETTER;
 use meaning::Reading;
 use rule::Rule;
 use rule::tables;
@@ -12,13 +13,14 @@ ghost use mathlib.Core.Bool.{true};
 ghost use mathlib.Core.List.{List};
 ghost use Prim.Native.Nat.{ℕ, _+_, _<_};
 ghost use Rattle.meaning.specs.RuleFile.{ruleOf};
-ghost use Rattle.meaning.specs.FullReading.{opens, closes, letter, eventOf, noMoveNumber, fullTurn};
+ghost use Rattle.meaning.specs.FullReading.{opens, closes, letter, eventOf, noMoveNumber, firstLetter, topNamed, letterTurn, fullTurn};
+ghost use Rattle.meaning.specs.Answers.{given};
 ghost use Rattle.meaning.specs.FullReading as full;
 ghost use Rattle.meaning.specs.Skipping as skipping;
 ghost use Rattle.meaning.specs.Skipping.{endsLevel, settledTurn, skipEvent};
 ghost use Rattle.rule.specs.Says.{RuleOf};
 ghost use Rattle.rule.specs.Tables.{tableSays};
-ghost use Rattle.turning.specs.Turns.{turnSays, lookAnswer, Counted, OneMore, StatesIn, Stands};
+ghost use Rattle.turning.specs.Turns.{turnSays, lookAnswer, levelFirst, Counted, OneMore, StatesIn, Stands};
 
 // The most events that a reading takes.
 pub const MOST_EVENTS: u32 = 4294967295;
@@ -49,6 +51,7 @@ fn looked(reading: Reading, state: u8, depth: u32) -> Reading
     let looks = reading.looks + 1;
     Reading {
         state,
+        first: reading.first,
         depth,
         skip: reading.skip,
         taken,
@@ -64,6 +67,7 @@ fn passed(reading: Reading, state: u8, depth: u32, skip: u32) -> Reading
     let taken = reading.taken + 1;
     Reading {
         state,
+        first: reading.first,
         depth,
         skip,
         taken,
@@ -84,14 +88,67 @@ fn look_up(ceiling: u32, reading: Reading, found: Move) -> LookedUp
     }
 }
 
-// A letter in full reading. The level store's length and the innermost record do not matter.
-fn full_letter(file: &[u8], rule: Rule, ceiling: u32, reading: Reading, a: u16) -> Turn
+// Only the mark is replaced by a letter.
+fn first_letter(first: u16, a: u16) -> u16
+    ensures { λ r. ⌜ r ≡ firstLetter first a ⌝ }
+{
+    if first == NO_LETTER {
+        return a;
+    }
+    first
+}
+
+// The first letter of the level that a reading stands on, or the mark: the top's is in the reading, and any other's in its
+// record.
+fn level_first(top: Level, reading: Reading) -> u16
+    ensures { λ r. ⌜ r ≡ levelFirst top reading ⌝ }
+{
+    if reading.depth == 0 {
+        return reading.first;
+    }
+    top.first
+}
+
+// The reading with a letter on the top level.
+fn top_named(a: u16, reading: Reading) -> Reading
+    ensures { λ r. ⌜ r ≡ topNamed a reading ⌝ }
+{
+    Reading {
+        state: reading.state,
+        first: first_letter(reading.first, a),
+        depth: reading.depth,
+        skip: reading.skip,
+        taken: reading.taken,
+        looks: reading.looks,
+    }
+}
+
+// A letter that was looked up and taken, with the reading after the look: where it is its level's first, that is kept.
+fn letter_turn(a: u16, top: Level, reading: Reading) -> Turn
+    ensures { λ r. ⌜ ((before : Reading) → turnSays before r ≡ given (letterTurn a top reading)) ⌝ }
+{
+    if level_first(top, reading) == NO_LETTER {
+        if reading.depth == 0 {
+            return Turn::Stays(top_named(a, reading));
+        }
+        let named = Level {
+            above: top.above,
+            first: a,
+            opened: top.opened,
+        };
+        return Turn::Names(named, reading);
+    }
+    Turn::Stays(reading)
+}
+
+// A letter in full reading. The level store's length does not matter.
+fn full_letter(file: &[u8], rule: Rule, ceiling: u32, reading: Reading, top: Level, a: u16) -> Turn
     requires { ⌜ RuleOf (now file) rule ⌝ ∗ ⌜ OneMore reading ⌝ ∗ ⌜ reading .state < rule .states ⌝ ∗ ⌜ a < rule .letters ⌝ }
-    ensures { λ r. ⌜ ((room : ℕ) (top : Level) → turnSays reading r ≡ fullTurn (ruleOf (now (file .entry))) room ceiling reading top (letter a)) ⌝ }
+    ensures { λ r. ⌜ ((room : ℕ) → turnSays reading r ≡ fullTurn (ruleOf (now (file .entry))) room ceiling reading top (letter a)) ⌝ }
 {
     let found = tables::letter_move(file, rule, reading.state, a);
     match look_up(ceiling, reading, found) {
-        LookedUp::To(state) => Turn::Stays(looked(reading, state, reading.depth)),
+        LookedUp::To(state) => letter_turn(a, top, looked(reading, state, reading.depth)),
         LookedUp::Refused(number) => Turn::Refused(number),
     }
 }
@@ -109,6 +166,7 @@ fn full_open(rule: Rule, room: usize, ceiling: u32, reading: Reading) -> Turn
         LookedUp::To(state) => {
             let opened = Level {
                 above: reading.state,
+                first: NO_LETTER,
                 opened: reading.taken,
             };
             Turn::Stores(opened, looked(reading, state, reading.depth + 1))
@@ -198,7 +256,7 @@ fn full_turn(
     if event == 1 {
         return full_close(file, rule, ceiling, reading, top);
     }
-    full_letter(file, rule, ceiling, reading, event - 2)
+    full_letter(file, rule, ceiling, reading, top, event - 2)
 }
 
 // An event: the event limit and the known letters, and then what the settled level or full reading makes of it.

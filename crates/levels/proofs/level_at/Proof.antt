@@ -57,7 +57,7 @@ stayed = stays ps
 
 blank-fits : Fits blank
 unfolding blank
-blank-fits = LL.owes L.the-type L′.the-laws blank ((refl, lit< tt), ((refl, lit< tt), tt))
+blank-fits = LL.owes L.the-type L′.the-laws blank ((refl, lit< tt), ((refl, lit< tt), ((refl, lit< tt), tt)))
 
 module _ {M : Type 1} (𝓤 : URA M) (H : Heap 𝓤) (A : Atoms 𝓤) (W : Given 𝓤 H A) (at-mem : Memory → SProp 𝓤) (run : Routine → Fun 𝓤) (𝓣 : Tables 𝓤 H) (κ : Lft) (q : Share) (b o : ℕ) (γ : GName) (ys : List Level) (i : ℕ) where
   abbrev x : RefT (List Level)
@@ -118,7 +118,7 @@ module _ {M : Type 1} (𝓤 : URA M) (H : Heap 𝓤) (A : Atoms 𝓤) (W : Given
       keep ! (2 ∷ 3 ∷ 4 ∷ 5 ∷ 6 ∷ 7 ∷ 8 ∷ 9 ∷ 10 ∷ 11 ∷ 0 ∷ []) $
       exec ! (𝓣 .C) (𝓣 .Λ) (E bs) body.t-4 (atRet (E bs) Post) $ tail bs (ltb i n) (some (vint w64 (i * 8))) (some (vptr b (place 8 o i))) (some (machine answer)) fits)))
       (λ h.
-      lets-last ! (agg ! (and-then ! (lit ! tt) (and-then ! (lit ! tt) (no-more !)))) refl (typed 𝓤 H A W blank blank-fits) $
+      lets-last ! (agg ! (and-then ! (lit ! tt) (and-then ! (lit ! tt) (and-then ! (lit ! tt) (no-more !))))) refl (typed 𝓤 H A W blank blank-fits) $
       rewrite ! 5 (λ (d : Level). ‵ (fat fullShare L′.mir (bs .1 .1 .1 .1 .1 .0) 0 (machine d))) (sym (List·getD-eq-default ys blank {n = i} (nltb→le i n h))) refl $
       keep ! (0 ∷ 1 ∷ 2 ∷ 3 ∷ 4 ∷ 5 ∷ 6 ∷ 7 ∷ 8 ∷ 9 ∷ 11 ∷ []) $
       exec ! (𝓣 .C) (𝓣 .Λ) (E bs) body.t-4 (atRet (E bs) Post) $

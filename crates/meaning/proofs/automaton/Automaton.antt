@@ -12,13 +12,15 @@ use native.Mathlib.Nat.{add-zero, add-assoc, le-max-left, le-max-right}
 use lib.ListN.{length, length-append}
 use borrow.Author.Tests.{ltb-true, lt-ltb, leb-true, leb-false, lt-leb, ne-eqb}
 use Rattle.meaning.specs.declared.Level.{Level}
-use Rattle.meaning.specs.Answers.{Answer, given, refused, _giving_, _≤?_, if_then_else_}
+use Rattle.meaning.specs.Answers.{Answer, given, refused, _giving_, _≤?_, _=?_, if_then_else_}
 use Rattle.meaning.specs.RuleFile.{Rule, Move, noMove, to, letterMove, treeMove, treeStartMove}
 use Rattle.meaning.specs.OpenLevels.{innermostOf, outerOf, runAfterOf}
-use Rattle.meaning.specs.FullReading.{eventOf, mostEvents, looked, Table, letterTable, startTable, treeTable, noMoveNumber, Turn, stays, stores, ends, look, newLevel, fullTurn, knownEvent, fullEvent, Run, innermost, outer, runAfter, fullStep, Went, feedBy}
+use Rattle.meaning.specs.FullReading.{eventOf, mostEvents, looked, noLetter, firstLetter, topNamed, letterTurn, Table, letterTable, startTable, treeTable, noMoveNumber, Turn, stores, ends, look, newLevel, fullTurn, knownEvent, fullEvent, Run, innermost, outer, runAfter, fullStep, Went, feedBy}
 use Rattle.meaning.specs.Hedges.{Hedge, ε, _·_, ⟨_⟩·_, eventsOf, known, Goes, byNothing, byLetter, byTree, Led, toState, missingAt, later, byMove, fromThere, evaluate, height, deepestOn, deepest}
-use Rattle.meaning.specs.StreamingMachine.{Suffices, Comes}
+use Rattle.meaning.specs.StreamingMachine.{Suffices, named, firstIn, Comes}
 use Rattle.meaning.proofs.laws.Answered.{refuse-passes, and-true, both-true}
+use Rattle.meaning.proofs.laws.Truths.{by-cases}
+use Rattle.meaning.proofs.laws.Letters.{lettered, named-keeps, named-inside, first-of-mark, named-mark, named-twice}
 use Rattle.meaning.proofs.laws.Tables.{number-tells}
 use Rattle.meaning.proofs.laws.FeedLaws.{feed-none, feed-taken, feed-refused}
 
@@ -112,7 +114,7 @@ module _ (R : Rule) (room ceiling : ℕ) (m : Run) (limit : m .reading .taken < 
 
   pub letter-look : (a : ℕ) → a < R .letters
       → OneLook (fullStep R room ceiling) m (suc (suc a)) letterTable (letterMove R (m .reading .state) a)
-      (λ q. stays (looked (m .reading) q (m .reading .depth)))
+      (λ q. letterTurn a (innermost (m .levels)) (looked (m .reading) q (m .reading .depth)))
   unfolding fullTurn eventOf
   letter-look a letter = known-turn (suc (suc a)) (omega arith) (refuse-passes 9 _ _ (lt-leb _ _ free))
 
@@ -132,11 +134,12 @@ module _ (R : Rule) (room ceiling : ℕ) (m : Run) (limit : m .reading .taken < 
 
 -- ---- where feeding the events of a hedge leads
 
--- the run after so many events, each a look, that lead to a state and leave the levels as they were
+-- the run after so many events, each a look, that lead to a state and leave the levels and their letters as they were
 abbrev pub ahead : Run → ℕ → ℕ → Run
 ahead m q n = record {
   reading = record {
     state = q;
+    first = m .reading .first;
     depth = m .reading .depth;
     skip = m .reading .skip;
     taken = m .reading .taken + n;
@@ -151,39 +154,52 @@ ahead-none m = simp add-zero
 ahead-on : (m : Run) (p q k n : ℕ) → ahead (ahead m p k) q n ≡ ahead m q (k + n)
 ahead-on m p q k n = simp add-assoc
 
--- Feeding so many events and then the rest goes where the hedge of these events leads: to its state, and there the rest is fed;
--- or to a refusal at the event whose move is missing.
-data Follows (step : Run → ℕ → Answer Run) (m : Run) (n : ℕ) (rest : List ℕ) (fed : Went Run) : Led → Type 0 where
-  arrives : {q : ℕ} → fed ≡ feedBy step (ahead m q n) rest → Follows step m n rest fed (toState q)
-  stops : {table : Table} {i : ℕ} → fed .ended ≡ refused (noMoveNumber table) (m .reading .taken + i)
-      → Follows step m n rest fed (missingAt table i)
+-- a letter taken ahead is a letter taken and then ahead
+named-ahead : (a : ℕ) (m : Run) (q n : ℕ) → named a (ahead m q n) ≡ ahead (named a m) q n
+unfolding named letterTurn runAfterOf topNamed if_then_else_
+named-ahead a m q n =
+    by-cases (m .reading .depth =? 0) (λ flat. rw (flat, if_then_else_))
+    (λ deep. by-cases (innermost (m .levels) .first =? noLetter)
+    (λ mark. rw (deep, if_then_else_, mark, if_then_else_)) (λ letter. rw (deep, if_then_else_, letter, if_then_else_)))
 
-module _ {step : Run → ℕ → Answer Run} {m : Run} {n : ℕ} {rest : List ℕ} where
+-- Feeding so many events and then the rest goes where the hedge of these events leads: to its state, with its first letter a, and
+-- there the rest is fed; or to a refusal at the event whose move is missing.
+data Follows (step : Run → ℕ → Answer Run) (m : Run) (a n : ℕ) (rest : List ℕ) (fed : Went Run) : Led → Type 0 where
+  arrives : {q : ℕ} → fed ≡ feedBy step (ahead (named a m) q n) rest → Follows step m a n rest fed (toState q)
+  stops : {table : Table} {i : ℕ} → fed .ended ≡ refused (noMoveNumber table) (m .reading .taken + i)
+      → Follows step m a n rest fed (missingAt table i)
+
+module _ {step : Run → ℕ → Answer Run} {m : Run} {a n : ℕ} {rest : List ℕ} where
   -- by a move at an event, and on
   byMove-follows : {m′ : Run} {e : ℕ} (es : List ℕ) {table : Table} {x : Move} (i : ℕ) {turn : ℕ → Turn} {next : ℕ → Led}
       → m′ .reading .taken ≡ m .reading .taken + i
       → OneLook step m′ e table x turn
-      → ((q : ℕ) → Follows step m n rest (feedBy step (runAfter (m′ .levels) (turn q)) es) (next q))
-      → Follows step m n rest (feedBy step m′ (e ∷ es)) (byMove table x i next)
+      → ((q : ℕ) → Follows step m a n rest (feedBy step (runAfter (m′ .levels) (turn q)) es) (next q))
+      → Follows step m a n rest (feedBy step m′ (e ∷ es)) (byMove table x i next)
   unfolding byMove
   byMove-follows es {table} {x = noMove} i place one on =
       stops (ap (λ w. w .ended) (feed-refused step es (look-none one)) ∙ ap (refused (noMoveNumber table)) place)
   byMove-follows es {x = to q} i place one on = rw (feed-taken step es (look-to one)) (on q)
 
-  -- the same after so many events
-  later-follows : {p n′ : ℕ} (k : ℕ) {fed : Went Run} {led : Led} → n ≡ k + n′
-      → Follows step (ahead m p k) n′ rest fed led → Follows step m n rest fed (later k led)
+  -- the same after so many events, of which b is the first letter
+  later-follows : {m₁ : Run} {p c n′ : ℕ} (b k : ℕ) {fed : Went Run} {led : Led} → m₁ ≡ named b m → a ≡ firstLetter b c
+      → n ≡ k + n′ → Follows step (ahead m₁ p k) c n′ rest fed led → Follows step m a n rest fed (later k led)
   unfolding later
-  later-follows {p} k same (arrives {q} e) =
-      arrives (e ∙ ap (λ a. feedBy step a rest) (ahead-on m p q k _ ∙ ap (ahead m q) (sym same)))
-  later-follows k same (stops e) = stops (rw add-assoc at e)
+  later-follows {m₁} {p} {c} {n′} b k there letter same (arrives {q} e) =
+      let first : named c m₁ ≡ named a m = ap (named c) there ∙ (named-twice b c m ∙ rw letter) in
+      arrives (e ∙ ap (λ a. feedBy step a rest)
+      (ap (λ a. ahead a q n′) (named-ahead c m₁ p k)
+      ∙ (ahead-on (named c m₁) p q k n′ ∙ (ap (λ a. ahead a q (k + n′)) first ∙ ap (ahead (named a m) q) (sym same)))))
+  later-follows {m₁} b k there letter same (stops e) =
+      let taken : m₁ .reading .taken ≡ m .reading .taken = ap (λ a. a .reading .taken) there ∙ named-keeps b m .taken in
+      stops (rw (taken, add-assoc) at e)
 
   -- from where a part led, on
-  fromThere-follows : {m′ : Run} {n′ : ℕ} (k : ℕ) {rest′ : List ℕ} {fed : Went Run} {led : Led} {next : ℕ → Led}
+  fromThere-follows : {m′ : Run} {b n′ : ℕ} (k : ℕ) {rest′ : List ℕ} {fed : Went Run} {led : Led} {next : ℕ → Led}
       → m′ .reading .taken ≡ m .reading .taken + k
-      → Follows step m′ n′ rest′ fed led
-      → ((q : ℕ) → Follows step m n rest (feedBy step (ahead m′ q n′) rest′) (next q))
-      → Follows step m n rest fed (fromThere (later k led) next)
+      → Follows step m′ b n′ rest′ fed led
+      → ((q : ℕ) → Follows step m a n rest (feedBy step (ahead (named b m′) q n′) rest′) (next q))
+      → Follows step m a n rest fed (fromThere (later k led) next)
   unfolding later fromThere
   fromThere-follows k place (arrives e) on = rw e (on _)
   fromThere-follows k place (stops e) on = stops (rw (place, add-assoc) at e)
@@ -202,9 +218,17 @@ inTree m p = runAfter (m .levels) (stores (newLevel (m .reading)) (looked (m .re
 abbrev pastTree : Run → ℕ → Run
 pastTree m q = runAfter (m .levels) (ends (looked (m .reading) q (m .reading .depth - 1)))
 
-past-ahead : (m : Run) (p p′ q n : ℕ) → pastTree (ahead (inTree m p) p′ n) q ≡ ahead m q (2 + n)
+-- the run inside it once letter b was taken there
+abbrev inNamed : Run → ℕ → ℕ → Run
+inNamed m p b = record { reading = inTree m p .reading; levels = lettered b (newLevel (m .reading)) ∷ m .levels }
+
+inside-named : (m : Run) (p b : ℕ) → named b (inTree m p) ≡ inNamed m p b
+unfolding runAfterOf looked
+inside-named m p b = named-inside b (looked (m .reading) p (m .reading .depth + 1)) (newLevel (m .reading)) (m .levels) (omega arith)
+
+past-ahead : (m : Run) (p b p′ q n : ℕ) → pastTree (ahead (inNamed m p b) p′ n) q ≡ ahead m q (2 + n)
 unfolding runAfterOf looked newLevel outerOf
-past-ahead m p p′ q n =
+past-ahead m p b p′ q n =
     let depth : m .reading .depth + 1 - 1 ≡ m .reading .depth = omega arith in
     let taken : m .reading .taken + 1 + n + 1 ≡ m .reading .taken + (2 + n) = omega arith in
     let looks : m .reading .looks + 1 + n + 1 ≡ m .reading .looks + (2 + n) = omega arith in
@@ -215,16 +239,20 @@ module _ (R : Rule) (room ceiling : ℕ) where
       → m .reading .depth + height h ≤ room
       → m .reading .looks + length (eventsOf h) ≤ ceiling
       → m .reading .taken + length (eventsOf h) ≤ mostEvents
-      → Follows (fullStep R room ceiling) m (length (eventsOf h)) rest
+      → Follows (fullStep R room ceiling) m (firstIn h) (length (eventsOf h)) rest
       (feedBy (fullStep R room ceiling) m (eventsOf h ++ rest))
       (evaluate R (m .reading .state) h)
-  unfolding eventsOf known height evaluate looked newLevel runAfterOf innermostOf outerOf
-  follow ε m rest letters levels looks taken = arrives (ap (λ a. feedBy (fullStep R room ceiling) a rest) (ahead-none m))
+  unfolding eventsOf known height evaluate looked newLevel runAfterOf innermostOf outerOf firstIn named
+  follow ε m rest letters levels looks taken =
+      arrives (ap (λ a. feedBy (fullStep R room ceiling) a rest) (ahead-none m ∙ ap (λ a. ahead a (m .reading .state) 0) (sym (named-mark m))))
   follow (a · h) m rest letters levels looks taken =
       let letter = and-true _ _ letters in
+      let keeps = named-keeps a m in
       byMove-follows (eventsOf h ++ rest) 0 (omega arith)
       (letter-look R room ceiling m (omega arith) (omega arith) a (ltb-true _ _ (letter .0)))
-      (λ q. later-follows 1 (omega arith) (follow h (ahead m q 1) rest (letter .1) levels (omega arith) (omega arith)))
+      (λ q. rw (named-ahead a m q 1)
+      (later-follows a 1 refl refl (omega arith)
+      (follow h (ahead (named a m) q 1) rest (letter .1) (omega (arith, keeps .depth)) (omega (arith, keeps .looks)) (omega (arith, keeps .taken)))))
   follow (⟨ h ⟩· g) m rest letters levels looks taken =
       let both = and-true _ _ letters in
       let tall = height-of-tree h g in
@@ -235,30 +263,31 @@ module _ (R : Rule) (room ceiling : ℕ) where
       (open-look R room ceiling m (omega arith) (omega arith) (omega arith))
       (λ p. fromThere-follows 1 refl
       (follow h (inTree m p) (1 ∷ (eventsOf g ++ rest)) (both .0) (omega arith) (omega arith) (omega arith))
-      (λ p′. byMove-follows (eventsOf g ++ rest) (1 + n) (omega arith)
-      (close-look R room ceiling (ahead (inTree m p) p′ n) (omega arith) (omega arith) (omega arith))
-      (λ q. rw (past-ahead m p p′ q n)
-      (later-follows (2 + n) (omega arith)
-      (follow g (ahead m q (2 + n)) rest (both .1) (omega arith) (omega arith) (omega arith)))))))
+      (λ p′. rw (inside-named m p (firstIn h))
+      (byMove-follows (eventsOf g ++ rest) (1 + n) (omega arith)
+      (close-look R room ceiling (ahead (inNamed m p (firstIn h)) p′ n) (omega arith) (omega arith) (omega arith))
+      (λ q. rw (past-ahead m p (firstIn h) p′ q n)
+      (later-follows noLetter (2 + n) (sym (named-mark m)) (first-of-mark (firstIn g)) (omega arith)
+      (follow g (ahead m q (2 + n)) rest (both .1) (omega arith) (omega arith) (omega arith))))))))
 
 -- ---- full reading of a hedge's events
 
-follows-to : {step : Run → ℕ → Answer Run} {m : Run} {n : ℕ} {fed : Went Run} {led : Led} {q : ℕ}
-    → Follows step m n [] fed led → led ≡ toState q → fed ≡ record { last = ahead m q n; ended = given tt }
-follows-to {step} {m} {n} {q} (arrives {q = q₁} e) same =
+follows-to : {step : Run → ℕ → Answer Run} {m : Run} {a n : ℕ} {fed : Went Run} {led : Led} {q : ℕ}
+    → Follows step m a n [] fed led → led ≡ toState q → fed ≡ record { last = ahead (named a m) q n; ended = given tt }
+follows-to {step} {m} {a} {n} {q} (arrives {q = q₁} e) same =
     let there : q₁ ≡ q = cc in
-    e ∙ (feed-none step (ahead m q₁ n) ∙ rw there)
+    e ∙ (feed-none step (ahead (named a m) q₁ n) ∙ rw there)
 follows-to (stops e) same = let z : _≡_ {A = ℕ} 0 1 = cc in absurd (omega arith)
 
-follows-missing : {step : Run → ℕ → Answer Run} {m : Run} {n : ℕ} {fed : Went Run} {led : Led} {table : Table} {i : ℕ}
-    → Follows step m n [] fed led → led ≡ missingAt table i → fed .ended ≡ refused (noMoveNumber table) (m .reading .taken + i)
+follows-missing : {step : Run → ℕ → Answer Run} {m : Run} {a n : ℕ} {fed : Went Run} {led : Led} {table : Table} {i : ℕ}
+    → Follows step m a n [] fed led → led ≡ missingAt table i → fed .ended ≡ refused (noMoveNumber table) (m .reading .taken + i)
 follows-missing (arrives e) same = let z : _≡_ {A = ℕ} 0 1 = cc in absurd (omega arith)
 follows-missing (stops e) same = cc
 
-missing-refused : {step : Run → ℕ → Answer Run} {m : Run} {n : ℕ} {fed : Went Run} {led : Led} {table : Table} {i : ℕ}
-    → Follows step m n [] fed led → fed .ended ≡ refused (noMoveNumber table) (m .reading .taken + i) → led ≡ missingAt table i
-missing-refused {step} {m} {n} (arrives {q = q₁} e) same =
-    let all = ap (λ w. w .ended) (e ∙ feed-none step (ahead m q₁ n)) in
+missing-refused : {step : Run → ℕ → Answer Run} {m : Run} {a n : ℕ} {fed : Went Run} {led : Led} {table : Table} {i : ℕ}
+    → Follows step m a n [] fed led → fed .ended ≡ refused (noMoveNumber table) (m .reading .taken + i) → led ≡ missingAt table i
+missing-refused {step} {m} {a} {n} (arrives {q = q₁} e) same =
+    let all = ap (λ w. w .ended) (e ∙ feed-none step (ahead (named a m) q₁ n)) in
     let z : _≡_ {A = ℕ} 0 1 = cc in absurd (omega arith)
 missing-refused {m} {table} {i} (stops {table = table₁} {i = i₁} e) same =
     let number : noMoveNumber table₁ ≡ noMoveNumber table = cc in
@@ -266,10 +295,10 @@ missing-refused {m} {table} {i} (stops {table = table₁} {i = i₁} e) same =
     let events : i₁ ≡ i = omega arith in
     rw (number-tells table₁ table number, events)
 
-come-to : {step : Run → ℕ → Answer Run} {m : Run} {n : ℕ} {fed : Went Run} {led : Led} {q : ℕ}
-    → Follows step m n [] fed led → Comes fed q (m .levels) → led ≡ toState q
-come-to {step} {m} {n} (arrives {q = q₁} e) comes =
-    ap toState (sym (ap (λ w. w .last .reading .state) (e ∙ feed-none step (ahead m q₁ n))) ∙ comes .inState)
+come-to : {step : Run → ℕ → Answer Run} {m : Run} {a n : ℕ} {fed : Went Run} {led : Led} {q : ℕ}
+    → Follows step m a n [] fed led → Comes fed q (named a m .levels) → led ≡ toState q
+come-to {step} {m} {a} {n} (arrives {q = q₁} e) comes =
+    ap toState (sym (ap (λ w. w .last .reading .state) (e ∙ feed-none step (ahead (named a m) q₁ n))) ∙ comes .inState)
 come-to (stops e) comes = let z : _≡_ {A = ℕ} 0 1 = cc in absurd (omega arith)
 
 -- no fewer are open at once than were open before
@@ -303,6 +332,7 @@ module _ (R : Rule) (room ceiling : ℕ) (m : Run) (h : Hedge) (letters : known 
   followed : Follows
       (fullStep R room ceiling)
       m
+      (firstIn h)
       (length (eventsOf h))
       []
       (feedBy (fullStep R room ceiling) m (eventsOf h))
@@ -311,10 +341,10 @@ module _ (R : Rule) (room ceiling : ℕ) (m : Run) (h : Hedge) (letters : known 
       rw append-nil at (follow R room ceiling h m [] letters (omega (arith, enough .levels, deepest-whole (m .reading .depth) h)) (enough .looks) (enough .taken))
 
   -- where the hedge leads to a state, all its events are taken, each as one look, and reading is in that state with the levels
-  -- as they were
+  -- as they were, but that the level has the hedge's first letter if it had none
   pub full-follows : {q′ : ℕ} → evaluate R (m .reading .state) h ≡ toState q′
       → feedBy (fullStep R room ceiling) m (eventsOf h)
-      ≡ record { last = ahead m q′ (length (eventsOf h)); ended = given tt }
+      ≡ record { last = ahead (named (firstIn h) m) q′ (length (eventsOf h)); ended = given tt }
   full-follows e = follows-to followed e
 
   -- where a move is missing, the event that wants it is refused, at its own place, with the number of the table that has none
@@ -336,10 +366,9 @@ module _ (R : Rule) (room ceiling : ℕ) (m : Run) (h : Hedge) (letters : known 
   unfolding noMoveNumber
   full-says-which i = (full-refuses-exactly-if letterTable i, full-refuses-exactly-if startTable i, full-refuses-exactly-if treeTable i)
 
-  -- all events are taken, and reading comes to a state with the levels as they were, exactly if the automaton goes to that
-  -- state by the hedge
+  -- all events are taken, and reading comes to a state with these levels exactly if the automaton goes to that state by the hedge
   pub full-follows-goes : (q′ : ℕ)
-      → Comes (feedBy (fullStep R room ceiling) m (eventsOf h)) q′ (m .levels) ↔ Goes R (m .reading .state) h q′
+      → Comes (feedBy (fullStep R room ceiling) m (eventsOf h)) q′ (named (firstIn h) m .levels) ↔ Goes R (m .reading .state) h q′
   full-follows-goes q′ = (
     λ comes. evaluates-goes R (m .reading .state) h letters (come-to followed comes),
     λ goes.

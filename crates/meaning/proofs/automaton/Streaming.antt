@@ -16,11 +16,12 @@ use Rattle.meaning.specs.declared.Level.{Level}
 use Rattle.meaning.specs.Answers.{Answer, given, refused, _≤?_, _=?_}
 use Rattle.meaning.specs.RuleFile.{Rule, to, letterMove, treeMove, treeStartMove}
 use Rattle.meaning.specs.OpenLevels.{innermostOf, outerOf, runAfterOf}
-use Rattle.meaning.specs.FullReading.{Event, opens, closes, letter, eventOf, mostEvents, looked, newLevel, Turn, stays, stores, ends, fullTurn, knownEvent, fullEvent, Run, innermost, outer, runAfter, fullStep, Went, feedBy}
+use Rattle.meaning.specs.FullReading.{Event, opens, closes, letter, eventOf, mostEvents, looked, newLevel, letterTurn, Turn, stores, ends, fullTurn, knownEvent, fullEvent, Run, innermost, outer, runAfter, fullStep, Went, feedBy}
 use Rattle.meaning.specs.Hedges.{Hedge, ε, _·_, ⟨_⟩·_, eventsOf, Goes, byNothing, byLetter, byTree, deepestOn, deepest}
 use Rattle.meaning.specs.StreamingMachine.{Streams, readsNothing, readsLetter, readsOpen, readsClose, PartialRun, ofHedge, intoTree, aboves, Suffices, WithinLimits, Arrives}
 use Rattle.meaning.proofs.laws.Answered.{giving-given}
 use Rattle.meaning.proofs.laws.Events.{known-letter}
+use Rattle.meaning.proofs.laws.Letters.{letter-keeps}
 use Rattle.meaning.proofs.laws.FeedLaws.{feed-none, feed-taken, feed-first}
 use Rattle.meaning.proofs.automaton.Automaton.{OneLook, look-to, letter-look, open-look, close-look, deepest-least}
 use Rattle.meaning.proofs.stores.Turns.{Gives, gives, gives-refuse, gives-look}
@@ -133,7 +134,7 @@ module _ {R : Rule} where
 -- what it needs of the limits and of the tables, and what it does
 data Taken (R : Rule) (room ceiling : ℕ) (r : Reading) (top : Level) : Event → Turn → Type 0 where
   letterTaken : (a q : ℕ) → r .taken < mostEvents → r .looks < ceiling → a < R .letters → letterMove R (r .state) a ≡ to q
-      → Taken R room ceiling r top (letter a) (stays (looked r q (r .depth)))
+      → Taken R room ceiling r top (letter a) (letterTurn a top (looked r q (r .depth)))
   openTaken : (q : ℕ) → r .taken < mostEvents → r .looks < ceiling → r .depth < room → treeStartMove R ≡ to q
       → Taken R room ceiling r top opens (stores (newLevel r) (looked r q (r .depth + 1)))
   closeTaken : (q : ℕ) → r .taken < mostEvents → r .looks < ceiling → 0 < r .depth → treeMove R (top .above) (r .state) ≡ to q
@@ -185,14 +186,16 @@ module _ (R : Rule) (room ceiling : ℕ) where
       → Went-by R room ceiling r ls (e ∷ es) m
   unfolding eventOf runAfterOf looked newLevel outerOf innermostOf aboves deepest deepestOn
   first-then r ls (suc (suc a)) es depth (letterTaken b q more below known leads) rest =
-      let w = rest (looked r q (r .depth)) ls refl depth in
+      let after : Run = runAfter ls (letterTurn b (innermost ls) (looked r q (r .depth))) in
+      let keeps = letter-keeps b (looked r q (r .depth)) ls in
+      let w = rest (after .reading) (after .levels) refl (omega (arith, keeps .depth, keeps .stored)) in
       record {
-        streams = readsLetter known leads (w .streams);
+        streams = readsLetter known leads (rw (keeps .state, keeps .stack) at (w .streams));
         stored = w .stored;
-        skip = w .skip;
-        levels = w .levels;
-        looks = λ h. omega (arith, w .looks (omega arith));
-        taken = λ h. omega (arith, w .taken (omega arith));
+        skip = w .skip ∙ keeps .skip;
+        levels = rw (keeps .depth) at (w .levels);
+        looks = λ h. omega (arith, keeps .looks, w .looks (omega (arith, keeps .looks)));
+        taken = λ h. omega (arith, keeps .taken, w .taken (omega (arith, keeps .taken)));
       }
   first-then r ls zero es depth (openTaken q more below fits leads) rest =
       let w = rest (looked r q (r .depth + 1)) (newLevel r ∷ ls) refl (omega arith) in
@@ -257,9 +260,16 @@ module _ (R : Rule) (room ceiling : ℕ) where
       let one = letter-look R room ceiling m (omega (arith, enough .taken)) (omega (arith, enough .looks)) a known in
       let move : letterMove R (r .state) a ≡ to p = rw state leads in
       let step = look-to {q = p} (rw move at one) in
+      let after : Run = runAfter ls (letterTurn a (innermost ls) (looked r p (r .depth))) in
+      let keeps = letter-keeps a (looked r p (r .depth)) ls in
+      let deep = ap (λ n. deepest n es) (keeps .depth) in
       rw (feed-taken (fullStep R room ceiling) es step)
-      (machine-read (looked r p (r .depth)) ls s refl stack depth
-      (record { levels = enough .levels; looks = omega (arith, enough .looks); taken = omega (arith, enough .taken) }))
+      (machine-read (after .reading) (after .levels) s (keeps .state) (keeps .stack ∙ stack) (omega (arith, keeps .depth, keeps .stored))
+      (record {
+        levels = omega (arith, enough .levels, deep);
+        looks = omega (arith, enough .looks, keeps .looks);
+        taken = omega (arith, enough .taken, keeps .taken);
+      }))
   machine-read r ls (readsOpen {p} {es} leads s) state stack depth enough =
       let m : Run = record { reading = r; levels = ls } in
       let deeper = ap (λ n. deepest n es) (add-one (r .depth)) in

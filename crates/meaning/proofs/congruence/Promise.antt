@@ -19,6 +19,7 @@ use Rattle.meaning.specs.RuleFile.{Rule, IsRule, Move, to, letterMove, t
 use Rattle.meaning.specs.FullReading.{Event, opens, closes, letter, eventOf, Table, letterTable, startTable, treeTable, freshRun, fullRun}
 use Rattle.meaning.specs.FullReading.{Turn, look, looked, newLevel, fullTurn, knownEvent, fullEvent, fullStep}
 use Rattle.meaning.specs.FullReading.{Run, innermost, outer, runAfter, freshReading}
+use Rattle.meaning.specs.StreamingMachine.{aboves}
 use Rattle.meaning.specs.Calls.{Judged, endOf, endOfRun}
 use Rattle.meaning.specs.OpenLevels.{TurnOf, innermostOf, outerOf, runAfterOf}
 use Rattle.meaning.specs.StateSets.{mostSetStates, someIn, only, reachable, letterMoves, treeStarts, treeMoves}
@@ -29,6 +30,7 @@ use Rattle.meaning.specs.SetDemands.{InSchema}
 use Rattle.meaning.proofs.laws.Answered.{if-true, if-false, both-true, refuse-given, refuse-passes}
 use Rattle.meaning.proofs.laws.Truths.{true-is-not-false, by-cases, not-true-false}
 use Rattle.meaning.proofs.laws.Events.{known-letter}
+use Rattle.meaning.proofs.laws.Letters.{ButLetters, letter-keeps, inner-by-stack, outer-by-stack}
 use Rattle.meaning.proofs.laws.Following.{Follows, notAsked, bothGive, refuse-each, refuse-first, if-second, look-first, giving-each, follows-so, feed-each}
 use Rattle.meaning.proofs.skipbook.Reaching.{initial-below, reach-letter, reach-tree}
 use Rattle.meaning.proofs.congruence.Sets.{Member, Some, not-empty, in-some, some-in, in-only, only-in, in-letter, in-start, in-tree, in-reachable, reachable-in, set-reachable}
@@ -59,7 +61,8 @@ pub record Counts (r : Reading) (τ : List Level) (r′ : SetReading) (σ : List
   pub looks : r′ .looks ≤ r .looks
   pub few : r′ .looks ≤ r′ .taken
 
--- full reading r with the levels τ ++ ls, and the second way r′ with the levels σ
+-- Full reading r with the states above its levels as above τ ++ ls, and the second way r′ with the levels σ. First letters play no
+-- part.
 pub record Alongside (R : Rule) (r : Reading) (τ ls : List Level) (r′ : SetReading) (σ : List SetLevel) : Type 0 where
   pub counts : Counts r τ r′ σ
   pub ahead : Ahead R (Come R (r′ .set)) (r .state) τ
@@ -68,8 +71,8 @@ pub record Alongside (R : Rule) (r : Reading) (τ ls : List Level) (r′ : SetRe
   pub around : Around R ls σ (r′ .relation)
 
 pub data Simulates (R : Rule) : Run → SetRun → Type 0 where
-  simulates : {r : Reading} {r′ : SetReading} {τ ls : List Level} {σ : List SetLevel} → Alongside R r τ ls r′ σ
-      → Simulates R (record { reading = r; levels = τ ++ ls }) (record { reading = r′; levels = σ })
+  simulates : {r : Reading} {r′ : SetReading} {all τ ls : List Level} {σ : List SetLevel} → aboves all ≡ aboves (τ ++ ls)
+      → Alongside R r τ ls r′ σ → Simulates R (record { reading = r; levels = all }) (record { reading = r′; levels = σ })
 
 -- ---- what can be come to is closed under moves
 
@@ -113,10 +116,10 @@ abbrev After : Rule → List Level → SetReading → List SetLevel → Turn →
 After R ls r′ σ turn turn′ = Kept R (r′ .taken + 1) (runAfter ls turn) (runAfterOf σ turn′)
 
 -- the two stand together on one level, which may have stopped
-meet : {R : Rule} {n : ℕ} (r : Reading) (ls : List Level) (r′ : SetReading) (σ : List SetLevel) → IsRule R → r′ .taken ≡ n
-    → Counts r [] r′ σ → Member R (r′ .set) (r .state) → Compatible R (r′ .set) (r′ .relation) → Around R ls σ (r′ .relation)
-    → Kept R n (record { reading = r; levels = ls }) (record { reading = r′; levels = σ })
-meet {R} r ls r′ σ rule counted counts member fits around =
+meet : {R : Rule} {n : ℕ} (r : Reading) (all ls : List Level) (r′ : SetReading) (σ : List SetLevel) → aboves all ≡ aboves ls → IsRule R
+    → r′ .taken ≡ n → Counts r [] r′ σ → Member R (r′ .set) (r .state) → Compatible R (r′ .set) (r′ .relation)
+    → Around R ls σ (r′ .relation) → Kept R n (record { reading = r; levels = all }) (record { reading = r′; levels = σ })
+meet {R} r all ls r′ σ stack rule counted counts member fits around =
     let along : Alongside R r [] ls r′ σ =
     record {
       counts = counts;
@@ -125,48 +128,76 @@ meet {R} r ls r′ σ rule counted counts member fits around =
       compatible = fits;
       around = around;
     } in
-    record { related = simulates along; counted = counted }
+    record { related = simulates {τ = []} stack along; counted = counted }
+
+-- first letters change nothing of it
+but-letters : {R : Rule} {n : ℕ} {r : Reading} {all : List Level} {m : Run} {s : SetRun} → Kept R n (record { reading = r; levels = all }) s
+    → ButLetters r all m → Kept R n m s
+but-letters {R} {r} {all} {m} {s} kept same = record { related = go (kept .related); counted = kept .counted }
+  where
+    go : {s : SetRun} → Simulates R (record { reading = r; levels = all }) s → Simulates R m s
+    go (simulates {r′} {τ} {ls} {σ} stack along) =
+        let moved : Alongside R (m .reading) τ ls r′ σ =
+        record {
+          counts = record {
+            skip = along .counts .skip;
+            stored = along .counts .stored;
+            depth = same .depth ∙ along .counts .depth;
+            taken = same .taken ∙ along .counts .taken;
+            looks = omega (arith, same .looks, along .counts .looks);
+            few = along .counts .few;
+          };
+          ahead = rw (same .state) (along .ahead);
+          together = λ moving. let both = along .together moving in (both .0, rw (same .state) (both .1));
+          compatible = along .compatible;
+          around = along .around;
+        } in
+        simulates {τ = τ} (same .stack ∙ stack) moved
 
 -- ---- one event
 
 module _ {R : Rule} (rule : IsRule R) (few : R .states ≤ mostSetStates) (room ceiling : ℕ) {r : Reading} {r′ : SetReading} where
   -- the close that ends a level, with lower states that hold full reading's and are compatible with the relation
-  close-turn : {ls : List Level} {σ : List SetLevel} → Counts r [] r′ σ → Around R ls σ (r′ .relation) → (lowers : ℕ)
-      → Member R lowers (r .state) → Compatible R lowers (r′ .relation)
-      → Follows (After R ls r′ σ) (fullTurn R room ceiling r (innermost ls) closes) (setCloses R ceiling r′ (innermostOf blankSets σ) lowers)
+  close-turn : (all : List Level) {ls : List Level} {σ : List SetLevel} → aboves all ≡ aboves ls → Counts r [] r′ σ → Around R ls σ (r′ .relation)
+      → (lowers : ℕ) → Member R lowers (r .state) → Compatible R lowers (r′ .relation)
+      → Follows (After R all r′ σ) (fullTurn R room ceiling r (innermost all) closes) (setCloses R ceiling r′ (innermostOf blankSets σ) lowers)
   unfolding fullTurn setCloses innermostOf runAfterOf outerOf looked setLooked
-  close-turn counts (atTop same) lowers member fits =
+  close-turn all stack counts (atTop same) lowers member fits =
       refuse-first 7 _ _ λ deep. true-is-not-false (eq-eqb (r .depth) 0 (omega arith)) deep
-  close-turn counts (under {l} {s} {ls} {σ} upper above same rest) lowers member fits =
+  close-turn all stack counts (under {l} {s} {ls} {σ} upper above same rest) lowers member fits =
       let level : r .depth ≡ r′ .depth = omega arith in
+      let inner : innermost all .above ≡ l .above = inner-by-stack all (l ∷ ls) stack in
       refuse-each 7 _ _ _ _ (λ deep. rw level at deep)
       λ deep. refuse-each 9 _ _ _ _ (not-sooner ceiling (r .looks) (r′ .looks) (counts .looks))
       λ free. look-sets treeTable _ _ _ _
       λ q leads. let next : ℕ = treeMoves R (s .set) lowers in
-      let isIn = in-tree rule upper member leads in (
+      let isIn = in-tree rule upper member (rw inner at leads) in (
         not-empty next isIn,
         bothGive
-            (meet (looked r q (r .depth - 1)) ls (setLooked r′ next (s .relation) (r′ .depth - 1)) σ rule refl (omega arith) isIn
+            (meet (looked r q (r .depth - 1)) (outer all) ls (setLooked r′ next (s .relation) (r′ .depth - 1)) σ
+            (outer-by-stack all (l ∷ ls) stack) rule refl (omega arith) isIn
             (close-compatible rule few (s .set) lowers (s .relation) (rw same at fits)) rest),
       )
 
   -- a level that is not stopped: the two stand together
-  moving-turn : {ls : List Level} (σ : List SetLevel) → Alongside R r [] ls r′ σ → (v : Event)
+  moving-turn : (all : List Level) {ls : List Level} (σ : List SetLevel) → aboves all ≡ aboves ls → Alongside R r [] ls r′ σ → (v : Event)
       → ((a : ℕ) → v ≡ letter a → a < R .letters) → Member R (r′ .set) (r .state)
-      → Follows (After R ls r′ σ) (fullTurn R room ceiling r (innermost ls) v) (movingTurn R room ceiling r′ (innermostOf blankSets σ) v)
-  unfolding fullTurn movingTurn runAfterOf looked setLooked newLevel newSetLevel
-  moving-turn {ls} σ along (letter a) known member =
+      → Follows (After R all r′ σ) (fullTurn R room ceiling r (innermost all) v) (movingTurn R room ceiling r′ (innermostOf blankSets σ) v)
+  unfolding fullTurn movingTurn runAfterOf looked setLooked newLevel newSetLevel aboves
+  moving-turn all {ls} σ stack along (letter a) known member =
       refuse-each 9 _ _ _ _ (not-sooner ceiling (r .looks) (r′ .looks) (along .counts .looks))
       λ free. look-sets letterTable _ _ _ _
       λ q leads. let next : ℕ = letterMoves R (r′ .set) a in
       let isIn = in-letter rule a member leads in (
         not-empty next isIn,
         bothGive
-            (meet (looked r q (r .depth)) ls (setLooked r′ next (r′ .relation) (r′ .depth)) σ rule refl (omega arith) isIn
+            (but-letters
+            (meet (looked r q (r .depth)) all ls (setLooked r′ next (r′ .relation) (r′ .depth)) σ stack rule refl (omega arith) isIn
             (letter-compatible rule few (r′ .set) a (known a refl) (around-least rule few (along .around)) (along .compatible))
-            (along .around)),
+            (along .around))
+            (letter-keeps a (looked r q (r .depth)) all)),
       )
-  moving-turn {ls} σ along opens known member =
+  moving-turn all {ls} σ stack along opens known member =
       refuse-each 8 _ _ _ _ (not-sooner room (r .depth) (r′ .depth) (omega arith))
       λ fits. refuse-each 9 _ _ _ _ (not-sooner ceiling (r .looks) (r′ .looks) (along .counts .looks))
       λ free. look-sets startTable _ _ _ _
@@ -174,19 +205,20 @@ module _ {R : Rule} (rule : IsRule R) (few : R .states ≤ mostSetStates) (room 
       let isIn = in-start rule leads in (
         not-empty next isIn,
         bothGive
-            (meet (looked r q (r .depth + 1)) (newLevel r ∷ ls)
-            (setLooked r′ next (lowerRelation R (r′ .set) (r′ .relation)) (r′ .depth + 1)) (newSetLevel r′ ∷ σ) rule refl (omega arith) isIn
+            (meet (looked r q (r .depth + 1)) (newLevel r ∷ all) (newLevel r ∷ ls)
+            (setLooked r′ next (lowerRelation R (r′ .set) (r′ .relation)) (r′ .depth + 1)) (newSetLevel r′ ∷ σ) (cc) rule refl (omega arith) isIn
             (start-compatible rule few (around-least rule few (along .around)) (along .compatible))
             (under member (along .compatible) refl (along .around))),
       )
-  moving-turn σ along closes known member = close-turn (along .counts) (along .around) (r′ .set) member (along .compatible)
+  moving-turn all σ stack along closes known member = close-turn all stack (along .counts) (along .around) (r′ .set) member (along .compatible)
 
   -- the second way stands on its stopped level, and full reading moves on
-  stand : {ls : List Level} {τ : List Level} {σ : List SetLevel} → Alongside R r τ ls r′ σ → stopped R (r′ .set) (r′ .relation) ≡ true
-      → (r₁ : Reading) (τ₁ : List Level) (skip : ℕ) → Counts r₁ τ₁ (setPassed r′ skip) σ → Ahead R (Come R (r′ .set)) (r₁ .state) τ₁
-      → Kept R (r′ .taken + 1) (record { reading = r₁; levels = τ₁ ++ ls }) (record { reading = setPassed r′ skip; levels = σ })
+  stand : {ls τ : List Level} {σ : List SetLevel} → Alongside R r τ ls r′ σ → stopped R (r′ .set) (r′ .relation) ≡ true
+      → (r₁ : Reading) (all₁ τ₁ : List Level) (skip : ℕ) → aboves all₁ ≡ aboves (τ₁ ++ ls) → Counts r₁ τ₁ (setPassed r′ skip) σ
+      → Ahead R (Come R (r′ .set)) (r₁ .state) τ₁
+      → Kept R (r′ .taken + 1) (record { reading = r₁; levels = all₁ }) (record { reading = setPassed r′ skip; levels = σ })
   unfolding setPassed
-  stand {ls} {τ} {σ} along stops r₁ τ₁ skip counts ahead =
+  stand {ls} {τ} {σ} along stops r₁ all₁ τ₁ skip stack counts ahead =
       let next : Alongside R r₁ τ₁ ls (setPassed r′ skip) σ =
       record {
         counts = counts;
@@ -195,54 +227,57 @@ module _ {R : Rule} (rule : IsRule R) (few : R .states ≤ mostSetStates) (room 
         compatible = along .compatible;
         around = along .around;
       } in
-      record { related = simulates next; counted = refl }
+      record { related = simulates {τ = τ₁} stack next; counted = refl }
 
-  stopped-turn : {τ ls : List Level} (σ : List SetLevel) → Alongside R r τ ls r′ σ → (v : Event)
+  stopped-turn : (all : List Level) {τ ls : List Level} (σ : List SetLevel) → aboves all ≡ aboves (τ ++ ls) → Alongside R r τ ls r′ σ → (v : Event)
       → ((a : ℕ) → v ≡ letter a → a < R .letters) → stopped R (r′ .set) (r′ .relation) ≡ true
-      → Follows (After R (τ ++ ls) r′ σ) (fullTurn R room ceiling r (innermost (τ ++ ls)) v) (stoppedTurn R ceiling r′ (innermostOf blankSets σ) v)
-  unfolding fullTurn stoppedTurn runAfterOf innermostOf outerOf newLevel looked setPassed
-  stopped-turn {τ} σ along (letter a) known stops =
+      → Follows (After R all r′ σ) (fullTurn R room ceiling r (innermost all) v) (stoppedTurn R ceiling r′ (innermostOf blankSets σ) v)
+  unfolding fullTurn stoppedTurn runAfterOf innermostOf outerOf newLevel looked setPassed aboves
+  stopped-turn all {τ} σ stack along (letter a) known stops =
       refuse-first 9 _ _ λ free. look-first letterTable _ _ λ q leads. bothGive
-      (stand along stops (looked r q (r .depth)) τ (r′ .skip) (omega arith)
+      (but-letters
+      (stand along stops (looked r q (r .depth)) all τ (r′ .skip) stack (omega arith)
       (ahead-letter (come-closed rule (r′ .set)) a (along .ahead) (known a refl) leads))
-  stopped-turn {τ} σ along opens known stops =
+      (letter-keeps a (looked r q (r .depth)) all))
+  stopped-turn all {τ} σ stack along opens known stops =
       refuse-first 8 _ _ λ fits. refuse-first 9 _ _ λ free. look-first startTable _ _ λ q leads. bothGive
-      (stand along stops (looked r q (r .depth + 1)) (newLevel r ∷ τ) (r′ .skip + 1) (omega arith)
+      (stand along stops (looked r q (r .depth + 1)) (newLevel r ∷ all) (newLevel r ∷ τ) (r′ .skip + 1) (cc) (omega arith)
       (ahead-open (come-closed rule (r′ .set)) (newLevel r) (along .ahead) leads))
-  stopped-turn {τ = []} σ along closes known stops =
+  stopped-turn all {τ = []} σ stack along closes known stops =
       if-second _ (λ more. absurd (omega (arith, ltb-true 0 (r′ .skip) more)))
-      λ last. close-turn (along .counts) (along .around) (reachable R (r′ .set)) (here-in (along .ahead))
+      λ last. close-turn all stack (along .counts) (along .around) (reachable R (r′ .set)) (here-in (along .ahead))
       (stopped-compatible R (r′ .set) (r′ .relation) stops)
-  stopped-turn {τ = l ∷ τ} σ along closes known stops =
+  stopped-turn all {τ = l ∷ τ} {ls} σ stack along closes known stops =
+      let inner : innermost all .above ≡ l .above = inner-by-stack all (l ∷ τ ++ ls) stack in
       if-second _
       (λ more. refuse-first 7 _ _ λ deep. refuse-first 9 _ _ λ free. look-first treeTable _ _ λ q leads. bothGive
-      (stand along stops (looked r q (r .depth - 1)) τ (r′ .skip - 1) (omega arith)
-      (ahead-close (come-closed rule (r′ .set)) (along .ahead) leads)))
+      (stand along stops (looked r q (r .depth - 1)) (outer all) τ (r′ .skip - 1) (outer-by-stack all (l ∷ τ ++ ls) stack) (omega arith)
+      (ahead-close (come-closed rule (r′ .set)) (along .ahead) (rw inner at leads))))
       (λ last. absurd (omega (arith, ltb-false 0 (r′ .skip) last)))
 
-  unstopped-turn : {τ ls : List Level} (σ : List SetLevel) → Alongside R r τ ls r′ σ → (v : Event)
+  unstopped-turn : (all : List Level) {τ ls : List Level} (σ : List SetLevel) → aboves all ≡ aboves (τ ++ ls) → Alongside R r τ ls r′ σ → (v : Event)
       → ((a : ℕ) → v ≡ letter a → a < R .letters) → stopped R (r′ .set) (r′ .relation) ≡ false
-      → Follows (After R (τ ++ ls) r′ σ) (fullTurn R room ceiling r (innermost (τ ++ ls)) v) (movingTurn R room ceiling r′ (innermostOf blankSets σ) v)
-  unstopped-turn {τ = []} σ along v known moves = moving-turn σ along v known (along .together moves .1)
-  unstopped-turn {τ = l ∷ τ} σ along v known moves =
+      → Follows (After R all r′ σ) (fullTurn R room ceiling r (innermost all) v) (movingTurn R room ceiling r′ (innermostOf blankSets σ) v)
+  unstopped-turn all {τ = []} σ stack along v known moves = moving-turn all σ stack along v known (along .together moves .1)
+  unstopped-turn all {τ = l ∷ τ} σ stack along v known moves =
       let none = along .together moves .0 in
       let z : _≡_ {A = ℕ} 0 1 = cc in absurd (omega arith)
 
-  event-kept : {τ ls : List Level} (σ : List SetLevel) → Alongside R r τ ls r′ σ → (e : ℕ)
-      → Follows (After R (τ ++ ls) r′ σ) (fullEvent R room ceiling r (innermost (τ ++ ls)) e) (setEvent R room ceiling r′ (innermostOf blankSets σ) e)
+  event-kept : (all : List Level) {τ ls : List Level} (σ : List SetLevel) → aboves all ≡ aboves (τ ++ ls) → Alongside R r τ ls r′ σ → (e : ℕ)
+      → Follows (After R all r′ σ) (fullEvent R room ceiling r (innermost all) e) (setEvent R room ceiling r′ (innermostOf blankSets σ) e)
   unfolding fullEvent setEvent knownEvent setTurn
-  event-kept σ along e =
+  event-kept all σ stack along e =
       refuse-each 16 _ _ _ _ (λ free. rw (along .counts .taken) at free)
       λ free. refuse-each 10 _ _ _ _ (λ known. known)
       λ known. if-second _
-      (λ stops. stopped-turn σ along (eventOf e) (known-letter (R .letters) e (leb-false _ _ known)) stops)
-      (λ moves. unstopped-turn σ along (eventOf e) (known-letter (R .letters) e (leb-false _ _ known)) moves)
+      (λ stops. stopped-turn all σ stack along (eventOf e) (known-letter (R .letters) e (leb-false _ _ known)) stops)
+      (λ moves. unstopped-turn all σ stack along (eventOf e) (known-letter (R .letters) e (leb-false _ _ known)) moves)
 
 pub step-kept : {R : Rule} → IsRule R → R .states ≤ mostSetStates → (room ceiling : ℕ) {m : Run} {s : SetRun} → Simulates R m s → (e : ℕ)
     → Follows (Kept R (s .reading .taken + 1)) (fullStep R room ceiling m e) (setStep R room ceiling s e)
 unfolding fullStep setStep
-step-kept rule few room ceiling (simulates {σ} along) e =
-    giving-each (event-kept rule few room ceiling σ along e) (λ turn turn′ kept. bothGive kept)
+step-kept rule few room ceiling (simulates {all} {σ} stack along) e =
+    giving-each (event-kept rule few room ceiling all σ stack along e) (λ turn turn′ kept. bothGive kept)
 
 -- ---- a run of events
 
@@ -263,7 +298,7 @@ module _ {R : Rule} (rule : IsRule R) (few : R .states ≤ mostSetStates) (room 
   unfolding freshReading freshSets
   fresh-kept =
       let isIn = in-only R (R .initial) (initial-below rule) in
-      meet (freshReading R) [] (freshSets R) [] rule refl (omega arith) isIn (first-compatible rule few) (atTop refl)
+      meet (freshReading R) [] [] (freshSets R) [] refl rule refl (omega arith) isIn (first-compatible rule few) (atTop refl)
 
   -- the second way takes what full reading takes, and the two stand alongside
   pub both-take : (es : List ℕ) → fullRun R room ceiling es .ended ≡ given tt
@@ -309,7 +344,7 @@ module _ {R : Rule} (rule : IsRule R) (few : R .states ≤ mostSetStates) where
   ends-alike : {m : Run} {s : SetRun} {j : Judged} → Simulates R m s → endOfRun R m ≡ given j → InSchema (j .class)
       → setEndOfRun R s ≡ given (j .class)
   unfolding endOf setEndOf
-  ends-alike {j} (simulates {r} {r′} {τ} {ls} {σ} along) judged schema =
+  ends-alike {j} (simulates {r} {r′} {τ} {ls} {σ} stack along) judged schema =
       let passes = refuse-given 12 _ (0 <? r .depth + r .skip) _ judged in
       let flat : r .depth + r .skip ≤ 0 = ltb-false 0 _ (passes .0) in
       let class : classOf R (r .state) ≡ j .class = cc (passes .1) in
@@ -325,7 +360,7 @@ pub record SetsEndAlike (R : Rule) (room ceiling : ℕ) (es : List ℕ) (class :
   pub few : setRun R room ceiling es .last .reading .looks ≤ length es
 
 looks-few : {R : Rule} {m : Run} {s : SetRun} → Simulates R m s → s .reading .looks ≤ s .reading .taken
-looks-few (simulates along) = along .counts .few
+looks-few (simulates stack along) = along .counts .few
 
 pub sets-end-alike : {R : Rule} → IsRule R → R .states ≤ mostSetStates → (room ceiling : ℕ) (es : List ℕ) {j : Judged}
     → fullRun R room ceiling es .ended ≡ given tt → endOfRun R (fullRun R room ceiling es .last) ≡ given j → InSchema (j .class)

@@ -14,11 +14,11 @@ use Rattle.meaning.specs.Answers.{Answer, given, refused, _<?_, if_then_
 use Rattle.meaning.specs.RuleFile.{Rule, IsRule, checkRule, ruleOf}
 use Rattle.meaning.specs.FullReading.{Went, feedBy, fullRun}
 use Rattle.meaning.specs.OpenLevels.{TurnOf, RunOf, innermostOf}
-use Rattle.meaning.specs.Calls.{Judged, endOfRun}
+use Rattle.meaning.specs.Calls.{Judged, endOfRun, defaultCeiling}
 use Rattle.meaning.specs.StateSets.{mostSetStates}
 use Rattle.meaning.specs.SetTurns.{freshSets, blankSets, SetRun, setStep, setRun, setEvent, setOpenPlace, setEndOf, setEndOfRun}
 use Rattle.meaning.specs.SetCalls.{SetStore, SetStored, setRoom, setLevelAt, putSetLevel, setTopOf, setStoreStep, smallRule, setOpenCall, notSetReading}
-use Rattle.meaning.specs.SetCalls.{setCheck, setFedFrom, setFeedCall, setFinishCall, setCeiling, SetWhole, setFinishFed, setWholeFrom, setWholeDocument}
+use Rattle.meaning.specs.SetCalls.{setCheck, setFedFrom, setFeedCall, setFinishCall, SetWhole, setFinishFed, setWholeFrom, setWholeDocument}
 use Rattle.meaning.specs.SetDemands.{InSchema, SetsReadTo}
 use Rattle.meaning.proofs.laws.Answered.{giving-given, giving-passes, giving-stops, refuse-given, refuse-passes}
 use Rattle.meaning.proofs.laws.FeedKeeps.{feed-keeps}
@@ -212,17 +212,17 @@ module _ (file : List ℕ) (store : SetStore) (events : List ℕ) where
   module _ {first : SetReading} (opened : setOpenCall file ≡ given first) where
     pub whole-opened : setWholeDocument file store events
         ≡ record {
-          answer = setFinishFed file (setFeedCall file setCeiling first store events);
-          store = setFeedCall file setCeiling first store events .last .store;
+          answer = setFinishFed file (setFeedCall file defaultCeiling first store events);
+          store = setFeedCall file defaultCeiling first store events .last .store;
         }
     unfolding setWholeDocument setWholeFrom
     whole-opened = rw (opened, setWholeFrom)
 
     -- wherever full reading under that store and the call's ceiling ends in class 1 or 2, the call answers it
-    pub sets-promise-document : {j : Judged} → fullRun (ruleOf file) (setRoom store) setCeiling events .ended ≡ given tt
-        → endOfRun (ruleOf file) (fullRun (ruleOf file) (setRoom store) setCeiling events .last) ≡ given j → InSchema (j .class)
+    pub sets-promise-document : {j : Judged} → fullRun (ruleOf file) (setRoom store) defaultCeiling events .ended ≡ given tt
+        → endOfRun (ruleOf file) (fullRun (ruleOf file) (setRoom store) defaultCeiling events .last) ≡ given j → InSchema (j .class)
         → setWholeDocument file store events .answer ≡ given (j .class)
     unfolding setFinishFed
     sets-promise-document all judged schema =
-        let reads = sets-promise file store setCeiling events opened all judged schema in
+        let reads = sets-promise file store defaultCeiling events opened all judged schema in
         ap (λ (w : SetWhole). w .answer) whole-opened ∙ (giving-passes _ (reads .takesAll) ∙ reads .verdict)

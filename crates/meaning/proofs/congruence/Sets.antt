@@ -15,7 +15,7 @@ use Rattle.meaning.proofs.laws.Bools.{any-below, below-any}
 use Rattle.meaning.proofs.skipbook.Bits.{bit-word, bit-zero}
 use Rattle.meaning.proofs.skipbook.Marks.{marked-below, marked-true}
 use Rattle.meaning.proofs.skipbook.Reaching.{reach-below, letter-below, tree-below, start-below, reach-itself}
-use Rattle.meaning.proofs.skipbook.Rounds.{goes-to, goes-true, marks-are-reach, reach-never-used-up}
+use Rattle.meaning.proofs.skipbook.Rounds.{goes-to, goes-true, marks-are-reach}
 
 -- q is a state of the rule and in the set
 pub record Member (R : Rule) (set q : ℕ) : Type 0 where
@@ -130,7 +130,7 @@ module _ {R : Rule} (rule : IsRule R) where
   in-reachable {set} {q} {p} member reach =
       in-where R _ p (reach-below rule (member .low) reach)
       (in-some (λ q. marked (reachMarks R q) p) member
-      (marks-are-reach R rule q (member .low) (reach-never-used-up R rule q (member .low)) p .1 reach))
+      (marks-are-reach R rule q (member .low) p .1 reach))
 
   pub reachable-in : (set : ℕ) {p : ℕ} → Member R (reachable R set) p → Some R set (λ q. Reach R q p)
   unfolding reachable
@@ -140,7 +140,7 @@ module _ {R : Rule} (rule : IsRule R) where
       record {
         state = s .state;
         member = s .member;
-        holds = marks-are-reach R rule (s .state) low (reach-never-used-up R rule (s .state) low) p .0 (s .holds);
+        holds = marks-are-reach R rule (s .state) low p .0 (s .holds);
       }
 
   -- a set is among what can be reached from it

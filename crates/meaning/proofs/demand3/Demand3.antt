@@ -1,7 +1,7 @@
 -- Demand 3 of document 01: where full reading ends with a verdict, skipping with the rule's own book ends with the same
 -- verdict in the same state, and its looks are the events not passed over. One statement relates the two readings, and every
 -- event that full reading takes keeps it: on a settled level skipping stands still while full reading moves within Reach.
-use mathlib.Core.Path.{_≡_, refl, _∙_}
+use mathlib.Core.Path.{_≡_, refl, sym, ap, _∙_}
 use mathlib.Core.Bool.{Bool, true, false, not, _&&_, _||_}
 use mathlib.Core.List.{List, [], _∷_, _++_}
 use Prim.Native.Nat.{ℕ, zero, suc, _+_, _-_, _<_, _≤_}
@@ -20,11 +20,13 @@ use Rattle.meaning.specs.SkipBook.{CanEndTree, Reach, inStill, IsBook}
 use Rattle.meaning.specs.Skipping.{held, settled, passed, endsLevel, settledTurn, skipTurn, skipEvent, skipStep, skipRun}
 use Rattle.meaning.specs.PassedOver.{levelHeld, levelSettled, outsideSettled, closesStill, passedOver}
 use Rattle.meaning.specs.PassedOver.{thenCount, notPassedOver}
+use Rattle.meaning.specs.StreamingMachine.{aboves}
 use Rattle.meaning.specs.Calls.{Judged, endOf, endOfRun}
 use Rattle.meaning.proofs.laws.Answered.{if-true, if-false, both-true, refuse-given, refuse-passes}
 use Rattle.meaning.proofs.laws.Truths.{true-is-not-false, by-cases, or-true-first, or-true, or-true-left, or-true-right}
 use Rattle.meaning.proofs.laws.Truths.{and-false-right}
 use Rattle.meaning.proofs.laws.Events.{known-letter}
+use Rattle.meaning.proofs.laws.Letters.{ButLetters, keeps-itself, letter-keeps, inner-by-stack, outer-by-stack}
 use Rattle.meaning.proofs.skipbook.Reaching.{letter-below, tree-below, start-below, initial-below}
 use Rattle.meaning.proofs.skipbook.Ahead.{Ahead, here, inside, Closed, here-in, ahead-letter, ahead-open, ahead-close}
 use Rattle.meaning.proofs.skipbook.Reaching.{reach-itself, reach-letter, reach-tree, still-stays, hold-stays, hold-returns}
@@ -47,8 +49,9 @@ pub record Counts (r : Reading) (τ : List Level) (r′ : Reading) (σ : List Le
   pub taken : r .taken ≡ r′ .taken
   pub looks : r′ .looks ≤ r .looks
 
--- Full reading r with the levels τ ++ σ, and skipping r′ with the levels σ: full reading is where the level of skipping can
--- come to; if that level is not settled, the two stand together; and no level outside is settled.
+-- Full reading r with the states above its levels as above τ ++ σ, and skipping r′ with the levels σ: full reading is where the
+-- level of skipping can come to; if that level is not settled, the two stand together; and no level outside is settled. First
+-- letters play no part: on a settled level full reading takes letters that skipping passes over.
 pub record Alongside (R : Rule) (book : List ℕ) (r : Reading) (τ : List Level) (r′ : Reading) (σ : List Level) : Type 0 where
   pub counts : Counts r τ r′ σ
   pub state : r′ .state < R .states
@@ -57,8 +60,56 @@ pub record Alongside (R : Rule) (book : List ℕ) (r : Reading) (τ : List Level
   pub outside : Outside R book σ
 
 pub data Simulates (R : Rule) (book : List ℕ) : Run → Run → Type 0 where
-  simulates : {r r′ : Reading} {τ σ : List Level} → Alongside R book r τ r′ σ
-      → Simulates R book (record { reading = r; levels = τ ++ σ }) (record { reading = r′; levels = σ })
+  simulates : {r r′ : Reading} {ls τ σ : List Level} → aboves ls ≡ aboves (τ ++ σ) → Alongside R book r τ r′ σ
+      → Simulates R book (record { reading = r; levels = ls }) (record { reading = r′; levels = σ })
+
+-- ---- the states above the levels decide
+
+aboves-append : (τ σ : List Level) → aboves (τ ++ σ) ≡ aboves τ ++ aboves σ
+unfolding aboves
+aboves-append [] σ = refl
+aboves-append (l ∷ τ) σ = ap (λ us. l .above ∷ us) (aboves-append τ σ)
+
+module _ (book : List ℕ) where
+  held-by-stack : (q : ℕ) (ls ls′ : List Level) → aboves ls ≡ aboves ls′ → levelHeld book q ls ≡ levelHeld book q ls′
+  unfolding aboves levelHeld
+  held-by-stack q [] [] same = refl
+  held-by-stack q [] (l ∷ ls) same = let z : _≡_ {A = ℕ} 0 1 = cc in absurd (omega arith)
+  held-by-stack q (l ∷ ls) [] same = let z : _≡_ {A = ℕ} 0 1 = cc in absurd (omega arith)
+  held-by-stack q (l ∷ ls) (l′ ∷ ls′) same = let above : l .above ≡ l′ .above = cc in rw above
+
+  settled-by-stack : (q : ℕ) (ls ls′ : List Level) → aboves ls ≡ aboves ls′ → levelSettled book q ls ≡ levelSettled book q ls′
+  unfolding levelSettled
+  settled-by-stack q ls ls′ same = rw (held-by-stack q ls ls′ same)
+
+  outside-by-stack : (ls ls′ : List Level) → aboves ls ≡ aboves ls′ → outsideSettled book ls ≡ outsideSettled book ls′
+  unfolding aboves outsideSettled
+  outside-by-stack [] [] same = refl
+  outside-by-stack [] (l ∷ ls) same = let z : _≡_ {A = ℕ} 0 1 = cc in absurd (omega arith)
+  outside-by-stack (l ∷ ls) [] same = let z : _≡_ {A = ℕ} 0 1 = cc in absurd (omega arith)
+  outside-by-stack (l ∷ ls) (l′ ∷ ls′) same =
+      let above : l .above ≡ l′ .above = cc in
+      let rest : aboves ls ≡ aboves ls′ = cc in
+      rw (above, settled-by-stack (l′ .above) ls ls′ rest, outside-by-stack ls ls′ rest)
+
+  closes-by-stack : (q : ℕ) (ls ls′ : List Level) (v : Event) → aboves ls ≡ aboves ls′
+      → closesStill book q ls v ≡ closesStill book q ls′ v
+  unfolding closesStill
+  closes-by-stack q ls ls′ opens same = refl
+  closes-by-stack q ls ls′ (letter a) same = refl
+  closes-by-stack q ls ls′ closes same = rw (held-by-stack q ls ls′ same, outside-by-stack ls ls′ same)
+
+  module _ {R : Rule} where
+    unsettled-by-stack : {σ : List Level} (σ′ : List Level) → aboves σ ≡ aboves σ′ → Outside R book σ → Outside R book σ′
+    unfolding aboves
+    unsettled-by-stack [] same atTop = atTop
+    unsettled-by-stack (l ∷ σ) same atTop = let z : _≡_ {A = ℕ} 0 1 = cc in absurd (omega arith)
+    unsettled-by-stack [] same (within low unsettled rest) = let z : _≡_ {A = ℕ} 0 1 = cc in absurd (omega arith)
+    unsettled-by-stack (l′ ∷ σ′) same (within {l} {σ} low unsettled rest) =
+        let above : l .above ≡ l′ .above = cc in
+        let others : aboves σ ≡ aboves σ′ = cc in
+        within (rw above at low) (sym (settled-by-stack (l′ .above) σ σ′ others) ∙ (rw above at unsettled))
+        (unsettled-by-stack σ′ others rest)
 
 -- ---- full reading ahead
 
@@ -138,10 +189,15 @@ pub record Kept (R : Rule) (book : List ℕ) (looks : ℕ) (m s : Run) : Type 0 
 abbrev over : List ℕ → ℕ → List Level → Event → Bool
 over book x ls v = (levelSettled book x ls || outsideSettled book ls) && not (closesStill book x ls v)
 
+over-by-stack : (book : List ℕ) (x : ℕ) (ls ls′ : List Level) (v : Event) → aboves ls ≡ aboves ls′
+    → over book x ls v ≡ over book x ls′ v
+over-by-stack book x ls ls′ v same =
+    rw (settled-by-stack book x ls ls′ same, outside-by-stack book ls ls′ same, closes-by-stack book x ls ls′ v same)
+
 -- what an event leads to, in full reading and in skipping
-abbrev After : Rule → List ℕ → Reading → List Level → Reading → List Level → Event → Turn → Turn → Type 0
-After R book r τ r′ σ v turn turn′ =
-    Kept R book (r′ .looks + (if over book (r .state) (τ ++ σ) v then 0 else 1)) (runAfter (τ ++ σ) turn) (runAfter σ turn′)
+abbrev After : Rule → List ℕ → Reading → List Level → List Level → Reading → List Level → Event → Turn → Turn → Type 0
+After R book r ls τ r′ σ v turn turn′ =
+    Kept R book (r′ .looks + (if over book (r .state) (τ ++ σ) v then 0 else 1)) (runAfter ls turn) (runAfter σ turn′)
 
 one-look : (n : ℕ) {b : Bool} → b ≡ false → n + 1 ≡ n + (if b then 0 else 1)
 one-look n e = rw (if-false {A = ℕ} 0 1 e)
@@ -151,9 +207,10 @@ no-look n e = rw (if-true {A = ℕ} 0 1 e) (omega arith)
 
 module _ {R : Rule} {book : List ℕ} {n : ℕ} (r r′ : Reading) where
   -- the two stand together, in one state
-  meet : (σ : List Level) → Counts r [] r′ σ → r′ .state < R .states → Outside R book σ → r .state ≡ r′ .state → r′ .looks ≡ n
-      → Kept R book n (record { reading = r; levels = σ }) (record { reading = r′; levels = σ })
-  meet σ counts low outside same looks =
+  meet : (ls σ : List Level) → aboves ls ≡ aboves σ → Counts r [] r′ σ → r′ .state < R .states → Outside R book σ
+      → r .state ≡ r′ .state → r′ .looks ≡ n
+      → Kept R book n (record { reading = r; levels = ls }) (record { reading = r′; levels = σ })
+  meet ls σ stack counts low outside same looks =
       let along : Alongside R book r [] r′ σ =
       record {
         counts = counts;
@@ -162,13 +219,13 @@ module _ {R : Rule} {book : List ℕ} {n : ℕ} (r r′ : Reading) where
         together = λ unsettled. (refl, same);
         outside = outside;
       } in
-      record { related = simulates along; counted = looks }
+      record { related = simulates {τ = []} stack along; counted = looks }
 
   -- skipping stands on a settled level, and full reading is ahead
-  stand : (τ σ : List Level) → Counts r τ r′ σ → r′ .state < R .states → Outside R book σ → Ahead R (Reach R (r′ .state)) (r .state) τ
-      → levelSettled book (r′ .state) σ ≡ true → r′ .looks ≡ n
-      → Kept R book n (record { reading = r; levels = τ ++ σ }) (record { reading = r′; levels = σ })
-  stand τ σ counts low outside ahead settles looks =
+  stand : (ls τ σ : List Level) → aboves ls ≡ aboves (τ ++ σ) → Counts r τ r′ σ → r′ .state < R .states → Outside R book σ
+      → Ahead R (Reach R (r′ .state)) (r .state) τ → levelSettled book (r′ .state) σ ≡ true → r′ .looks ≡ n
+      → Kept R book n (record { reading = r; levels = ls }) (record { reading = r′; levels = σ })
+  stand ls τ σ stack counts low outside ahead settles looks =
       let along : Alongside R book r τ r′ σ =
       record {
         counts = counts;
@@ -177,18 +234,45 @@ module _ {R : Rule} {book : List ℕ} {n : ℕ} (r r′ : Reading) where
         together = λ unsettled. true-is-not-false settles unsettled;
         outside = outside;
       } in
-      record { related = simulates along; counted = looks }
+      record { related = simulates {τ = τ} stack along; counted = looks }
+
+-- first letters on either side change nothing of it
+but-letters : {R : Rule} {book : List ℕ} {n : ℕ} {r r′ : Reading} {ls σ : List Level} {m s : Run}
+    → Kept R book n (record { reading = r; levels = ls }) (record { reading = r′; levels = σ })
+    → ButLetters r ls m → ButLetters r′ σ s → Kept R book n m s
+but-letters {R} {book} {r} {r′} {ls} {σ} {m} {s} kept first second = record {
+  related = go (kept .related);
+  counted = second .looks ∙ kept .counted;
+}
+  where
+    go : Simulates R book (record { reading = r; levels = ls }) (record { reading = r′; levels = σ }) → Simulates R book m s
+    go (simulates {τ} stack along) =
+        let moved : Alongside R book (m .reading) τ (s .reading) (s .levels) =
+        record {
+          counts = record {
+            skip = second .skip ∙ along .counts .skip;
+            stored = omega (arith, second .depth, second .stored, along .counts .stored);
+            depth = omega (arith, first .depth, second .depth, second .skip, along .counts .depth);
+            taken = omega (arith, first .taken, second .taken, along .counts .taken);
+            looks = omega (arith, first .looks, second .looks, along .counts .looks);
+          };
+          state = rw (second .state) (along .state);
+          ahead = rw (second .state, first .state) (along .ahead);
+          together = λ unsettled.
+              let both =
+              along .together (sym (settled-by-stack book (r′ .state) (s .levels) σ (second .stack)) ∙ (rw (second .state) at unsettled)) in
+              (both .0, first .state ∙ (both .1 ∙ sym (second .state)));
+          outside = unsettled-by-stack book (s .levels) (sym (second .stack)) (along .outside);
+        } in
+        simulates {τ = τ}
+        (first .stack ∙ (stack ∙ (aboves-append τ σ ∙ (ap (λ us. aboves τ ++ us) (sym (second .stack)) ∙ sym (aboves-append τ (s .levels))))))
+        moved
 
 -- ---- one event
 
 -- who has used less is not refused sooner
 not-sooner : (most m n : ℕ) → n ≤ m → (most ≤? m) ≡ false → (most ≤? n) ≡ false
 not-sooner most m n less free = lt-leb most n (omega (arith, leb-false most m free))
-
--- one state and one place make one record
-new-level-same : (r r′ : Reading) → r .state ≡ r′ .state → r .taken ≡ r′ .taken → newLevel r ≡ newLevel r′
-unfolding newLevel
-new-level-same r r′ state taken = λ i. record { above = state i; opened = taken i }
 
 length-outer : (σ : List Level) → length (outer σ) ≡ length σ - 1
 unfolding outerOf
@@ -197,42 +281,44 @@ length-outer (l ∷ σ) = omega arith
 
 -- The two on one level: skipping counts no level inside.
 module _ {R : Rule} {book : List ℕ} (rule : IsRule R) (own : IsBook R book) (room ceiling : ℕ)
-    {r r′ : Reading} {σ : List Level} (along : Alongside R book r [] r′ σ) where
+    {r r′ : Reading} (ls : List Level) {σ : List Level} (stack : aboves ls ≡ aboves σ) (along : Alongside R book r [] r′ σ) where
   below-ceiling : (ceiling ≤? r .looks) ≡ false → (ceiling ≤? r′ .looks) ≡ false
   below-ceiling = not-sooner ceiling (r .looks) (r′ .looks) (along .counts .looks)
 
   -- both look, from one state to one state
   both-look : r .state ≡ r′ .state → (v : Event) → over book (r .state) σ v ≡ false
       → (v ≡ opens → levelSettled book (r′ .state) σ ≡ false)
-      → Follows (After R book r [] r′ σ v) (fullTurn R room ceiling r (innermost σ) v)
+      → Follows (After R book r ls [] r′ σ v) (fullTurn R room ceiling r (innermost ls) v)
       (fullTurn R room ceiling r′ (innermost σ) v)
-  unfolding fullTurn looked runAfterOf newLevel
+  unfolding fullTurn looked runAfterOf newLevel aboves
   both-look same (letter a) needed unsettled =
       refuse-each 9 _ _ _ _ below-ceiling
       λ free. look-each letterTable _ _ _ _ (cc)
       λ q leads. bothGive
-      (meet (looked r q (r .depth)) (looked r′ q (r′ .depth)) σ (omega arith) (letter-below rule (r .state) a leads)
+      (but-letters
+      (meet (looked r q (r .depth)) (looked r′ q (r′ .depth)) ls σ stack (omega arith) (letter-below rule (r .state) a leads)
       (along .outside) refl (one-look (r′ .looks) needed))
+      (letter-keeps a (looked r q (r .depth)) ls) (letter-keeps a (looked r′ q (r′ .depth)) σ))
   both-look same opens needed unsettled =
       refuse-each 8 _ _ _ _ (not-sooner room (r .depth) (r′ .depth) (omega arith))
       λ fits. refuse-each 9 _ _ _ _ below-ceiling
       λ free. look-each startTable _ _ _ _ refl
       λ q leads. bothGive
-      (rw (new-level-same r r′ same (along .counts .taken))
-      (meet (looked r q (r .depth + 1)) (looked r′ q (r′ .depth + 1)) (newLevel r′ ∷ σ) (omega arith) (start-below rule leads)
-      (within (along .state) (unsettled refl) (along .outside)) refl (one-look (r′ .looks) needed)))
+      (meet (looked r q (r .depth + 1)) (looked r′ q (r′ .depth + 1)) (newLevel r ∷ ls) (newLevel r′ ∷ σ) (cc) (omega arith)
+      (start-below rule leads) (within (along .state) (unsettled refl) (along .outside)) refl (one-look (r′ .looks) needed))
   both-look same closes needed unsettled =
       let level : r .depth ≡ r′ .depth = omega arith in
+      let above : innermost ls .above ≡ innermost σ .above = inner-by-stack ls σ stack in
       refuse-each 7 _ _ _ _ (λ deep. rw level at deep)
       λ deep. refuse-each 9 _ _ _ _ below-ceiling
       λ free. look-each treeTable _ _ _ _ (cc)
       λ q leads. bothGive
-      (meet (looked r q (r .depth - 1)) (looked r′ q (r′ .depth - 1)) (outer σ) (omega (arith, length-outer σ))
-      (tree-below rule _ (r .state) leads) (outside-outer (along .outside)) refl (one-look (r′ .looks) needed))
+      (meet (looked r q (r .depth - 1)) (looked r′ q (r′ .depth - 1)) (outer ls) (outer σ) (outer-by-stack ls σ stack)
+      (omega (arith, length-outer σ)) (tree-below rule _ (r .state) leads) (outside-outer (along .outside)) refl (one-look (r′ .looks) needed))
 
   -- A close that ends a level settled by still alone: nothing leads away from its state, so both look up the same move.
   ends-still : levelSettled book (r′ .state) σ ≡ true → levelHeld book (r′ .state) σ ≡ false
-      → Follows (After R book r [] r′ σ closes) (fullTurn R room ceiling r (innermost σ) closes)
+      → Follows (After R book r ls [] r′ σ closes) (fullTurn R room ceiling r (innermost ls) closes)
       (fullTurn R room ceiling r′ (innermost σ) closes)
   unfolding levelSettled closesStill
   ends-still settles free =
@@ -250,82 +336,87 @@ passes v rule own along settles exempt =
 
 module _ {R : Rule} {book : List ℕ} (rule : IsRule R) (own : IsBook R book) (room ceiling : ℕ) {r r′ : Reading} where
   -- A close that ends a held level: full reading's tree move leads back to the state above.
-  ends-held : (σ : List Level) → Alongside R book r [] r′ σ → levelSettled book (r′ .state) σ ≡ true
+  ends-held : (ls σ : List Level) → aboves ls ≡ aboves σ → Alongside R book r [] r′ σ → levelSettled book (r′ .state) σ ≡ true
       → levelHeld book (r′ .state) σ ≡ true
-      → Follows (After R book r [] r′ σ closes) (fullTurn R room ceiling r (innermost σ) closes)
+      → Follows (After R book r ls [] r′ σ closes) (fullTurn R room ceiling r (innermost ls) closes)
       (given (ends (passed r′ (innermost σ .above) (r′ .depth - 1) (r′ .skip))))
   unfolding fullTurn looked passed runAfterOf innermostOf outerOf closesStill levelHeld
-  ends-held [] along settles holds = true-is-not-false holds refl
-  ends-held (l ∷ σ) along settles holds =
+  ends-held ls [] stack along settles holds = true-is-not-false holds refl
+  ends-held ls (l ∷ σ) stack along settles holds =
       let upper = outside-above (along .outside) in
       let reach = here-in (along .ahead) in
       let exempt = held-stays rule own (along .state) (along .outside) holds reach in
       refuse-first 7 _ _ λ deep. refuse-first 9 _ _ λ free. look-first treeTable _ _ λ q leads. bothGive
-      (meet (looked r q (r .depth - 1)) (passed r′ (l .above) (r′ .depth - 1) (r′ .skip)) σ (omega arith) upper
-      (outside-outer (along .outside)) (hold-returns rule own (l .above) upper (along .state) holds reach leads)
+      (meet (looked r q (r .depth - 1)) (passed r′ (l .above) (r′ .depth - 1) (r′ .skip)) (outer ls) σ
+      (outer-by-stack ls (l ∷ σ) stack) (omega arith) upper (outside-outer (along .outside))
+      (hold-returns rule own (l .above) upper (along .state) holds reach (rw (inner-by-stack ls (l ∷ σ) stack) at leads))
       (no-look (r′ .looks) (passes closes rule own along settles (rw exempt))))
 
   -- skipping stands still on its settled level, full reading moves on, and the event is passed over
   goes-on : {τ σ : List Level} (v : Event) → Alongside R book r τ r′ σ → levelSettled book (r′ .state) σ ≡ true
-      → closesStill book (r .state) (τ ++ σ) v ≡ false → (r₁ : Reading) (τ₁ : List Level) (skip : ℕ)
-      → Counts r₁ τ₁ (passed r′ (r′ .state) (r′ .depth) skip) σ → Ahead R (Reach R (r′ .state)) (r₁ .state) τ₁
-      → Kept R book (r′ .looks + (if over book (r .state) (τ ++ σ) v then 0 else 1)) (record { reading = r₁; levels = τ₁ ++ σ })
+      → closesStill book (r .state) (τ ++ σ) v ≡ false → (r₁ : Reading) (ls₁ τ₁ : List Level) (skip : ℕ)
+      → aboves ls₁ ≡ aboves (τ₁ ++ σ) → Counts r₁ τ₁ (passed r′ (r′ .state) (r′ .depth) skip) σ → Ahead R (Reach R (r′ .state)) (r₁ .state) τ₁
+      → Kept R book (r′ .looks + (if over book (r .state) (τ ++ σ) v then 0 else 1)) (record { reading = r₁; levels = ls₁ })
       (record { reading = passed r′ (r′ .state) (r′ .depth) skip; levels = σ })
   unfolding passed
-  goes-on {τ} {σ} v along settles exempt r₁ τ₁ skip counts ahead =
-      stand r₁ (passed r′ (r′ .state) (r′ .depth) skip) τ₁ σ counts (along .state) (along .outside) ahead settles
+  goes-on {τ} {σ} v along settles exempt r₁ ls₁ τ₁ skip stack counts ahead =
+      stand r₁ (passed r′ (r′ .state) (r′ .depth) skip) ls₁ τ₁ σ stack counts (along .state) (along .outside) ahead settles
       (no-look (r′ .looks) (passes v rule own along settles exempt))
 
-  settled-turn : {τ : List Level} (σ : List Level) → Alongside R book r τ r′ σ → (v : Event)
-      → ((a : ℕ) → v ≡ letter a → a < R .letters) → levelSettled book (r′ .state) σ ≡ true
-      → Follows (After R book r τ r′ σ v) (fullTurn R room ceiling r (innermost (τ ++ σ)) v)
+  settled-turn : (ls : List Level) {τ : List Level} (σ : List Level) → aboves ls ≡ aboves (τ ++ σ) → Alongside R book r τ r′ σ
+      → (v : Event) → ((a : ℕ) → v ≡ letter a → a < R .letters) → levelSettled book (r′ .state) σ ≡ true
+      → Follows (After R book r ls τ r′ σ v) (fullTurn R room ceiling r (innermost ls) v)
       (settledTurn R book room ceiling r′ (innermost σ) v)
-  unfolding fullTurn settledTurn endsLevel runAfterOf innermostOf outerOf closesStill newLevel looked passed
-  settled-turn {τ} σ along (letter a) known settles =
+  unfolding fullTurn settledTurn endsLevel runAfterOf innermostOf outerOf closesStill newLevel looked passed aboves
+  settled-turn ls {τ} σ stack along (letter a) known settles =
       refuse-first 9 _ _ λ free. look-first letterTable _ _ λ q leads. bothGive
-      (goes-on (letter a) along settles refl (looked r q (r .depth)) τ (r′ .skip) (omega arith)
+      (but-letters
+      (goes-on (letter a) along settles refl (looked r q (r .depth)) ls τ (r′ .skip) stack (omega arith)
       (ahead-letter (reach-closed (r′ .state)) a (along .ahead) (known a refl) leads))
-  settled-turn {τ} σ along opens known settles =
+      (letter-keeps a (looked r q (r .depth)) ls) (keeps-itself _ σ))
+  settled-turn ls {τ} σ stack along opens known settles =
       refuse-first 8 _ _ λ fits. refuse-first 9 _ _ λ free. look-first startTable _ _ λ q leads. bothGive
-      (goes-on opens along settles refl (looked r q (r .depth + 1)) (newLevel r ∷ τ) (r′ .skip + 1) (omega arith)
+      (goes-on opens along settles refl (looked r q (r .depth + 1)) (newLevel r ∷ ls) (newLevel r ∷ τ) (r′ .skip + 1) (cc) (omega arith)
       (ahead-open (reach-closed (r′ .state)) (newLevel r) (along .ahead) leads))
-  settled-turn {τ = []} σ along closes known settles =
+  settled-turn ls {τ = []} σ stack along closes known settles =
       let same = held-is book r′ σ (along .counts .stored) in
       if-second _ (λ more. absurd (omega (arith, ltb-true 0 (r′ .skip) more)))
       λ last. if-second _
-      (λ holds. ends-held σ along settles (rw same at holds))
-      (λ free. ends-still rule own room ceiling along settles (rw same at free))
-  settled-turn {τ = l ∷ τ} σ along closes known settles =
+      (λ holds. ends-held ls σ stack along settles (rw same at holds))
+      (λ free. ends-still rule own room ceiling ls stack along settles (rw same at free))
+  settled-turn ls {τ = l ∷ τ} σ stack along closes known settles =
+      let above : innermost ls .above ≡ l .above = inner-by-stack ls (l ∷ τ ++ σ) stack in
       let exempt = inside-settled rule own (along .state) (along .outside) settles (along .ahead) in
       if-second _
       (λ more. refuse-first 7 _ _ λ deep. refuse-first 9 _ _ λ free. look-first treeTable _ _ λ q leads. bothGive
       (goes-on closes along settles (and-false-right (not (levelHeld book (r .state) (l ∷ τ ++ σ))) (rw exempt))
-      (looked r q (r .depth - 1)) τ (r′ .skip - 1) (omega arith) (ahead-close (reach-closed (r′ .state)) (along .ahead) leads)))
+      (looked r q (r .depth - 1)) (outer ls) τ (r′ .skip - 1) (outer-by-stack ls (l ∷ τ ++ σ) stack) (omega arith)
+      (ahead-close (reach-closed (r′ .state)) (along .ahead) (rw above at leads))))
       (λ last. absurd (omega (arith, ltb-false 0 (r′ .skip) last)))
 
   -- On an unsettled level the two stand together, and the event is not passed over.
-  unsettled-turn : {τ : List Level} (σ : List Level) → Alongside R book r τ r′ σ → (v : Event)
-      → levelSettled book (r′ .state) σ ≡ false
-      → Follows (After R book r τ r′ σ v) (fullTurn R room ceiling r (innermost (τ ++ σ)) v)
+  unsettled-turn : (ls : List Level) {τ : List Level} (σ : List Level) → aboves ls ≡ aboves (τ ++ σ) → Alongside R book r τ r′ σ
+      → (v : Event) → levelSettled book (r′ .state) σ ≡ false
+      → Follows (After R book r ls τ r′ σ v) (fullTurn R room ceiling r (innermost ls) v)
       (fullTurn R room ceiling r′ (innermost σ) v)
-  unsettled-turn {τ = []} σ along v unsettled =
+  unsettled-turn ls {τ = []} σ stack along v unsettled =
       let same = along .together unsettled .1 in
-      both-look rule own room ceiling along same v (rw (same, unsettled, outside-unsettled (along .outside))) (λ is. unsettled)
-  unsettled-turn {τ = l ∷ τ} σ along v unsettled =
+      both-look rule own room ceiling ls stack along same v (rw (same, unsettled, outside-unsettled (along .outside))) (λ is. unsettled)
+  unsettled-turn ls {τ = l ∷ τ} σ stack along v unsettled =
       let none = along .together unsettled .0 in
       let z : _≡_ {A = ℕ} 0 1 = cc in absurd (omega arith)
 
-  event-kept : {τ : List Level} (σ : List Level) → Alongside R book r τ r′ σ → (e : ℕ)
-      → Follows (After R book r τ r′ σ (eventOf e)) (fullEvent R room ceiling r (innermost (τ ++ σ)) e)
+  event-kept : (ls : List Level) {τ : List Level} (σ : List Level) → aboves ls ≡ aboves (τ ++ σ) → Alongside R book r τ r′ σ → (e : ℕ)
+      → Follows (After R book r ls τ r′ σ (eventOf e)) (fullEvent R room ceiling r (innermost ls) e)
       (skipEvent R book room ceiling r′ (innermost σ) e)
   unfolding fullEvent skipEvent knownEvent skipTurn
-  event-kept σ along e =
+  event-kept ls σ stack along e =
       let same = settled-is book r′ σ (along .counts .stored) in
       refuse-each 16 _ _ _ _ (λ free. rw (along .counts .taken) at free)
       λ free. refuse-each 10 _ _ _ _ (λ known. known)
       λ known. if-second _
-      (λ settles. settled-turn σ along (eventOf e) (known-letter (R .letters) e (leb-false _ _ known)) (rw same at settles))
-      (λ moves. unsettled-turn σ along (eventOf e) (rw same at moves))
+      (λ settles. settled-turn ls σ stack along (eventOf e) (known-letter (R .letters) e (leb-false _ _ known)) (rw same at settles))
+      (λ moves. unsettled-turn ls σ stack along (eventOf e) (rw same at moves))
 
 -- Every event that full reading takes is taken by skipping and keeps the relation. It is a look of skipping exactly if it is
 -- not passed over.
@@ -333,8 +424,9 @@ pub step-kept : {R : Rule} {book : List ℕ} → IsRule R → IsBook R book → 
     → (e : ℕ) → Follows (Kept R book (s .reading .looks + (if passedOver book m e then 0 else 1))) (fullStep R room ceiling m e)
     (skipStep R book room ceiling s e)
 unfolding fullStep skipStep passedOver
-step-kept rule own room ceiling (simulates {σ} along) e =
-    giving-each (event-kept rule own room ceiling σ along e) (λ turn turn′ kept. bothGive kept)
+step-kept {book} rule own room ceiling (simulates {r} {r′} {ls} {τ} {σ} stack along) e =
+    rw (over-by-stack book (r .state) ls (τ ++ σ) (eventOf e) stack)
+    (giving-each (event-kept rule own room ceiling ls σ stack along e) (λ turn turn′ kept. bothGive kept))
 
 -- ---- a run of events
 
@@ -376,7 +468,7 @@ module _ {R : Rule} {book : List ℕ} (rule : IsRule R) (own : IsBook R book) (r
   skipping-agrees es all =
       let total : ℕ = notPassedOver R book room ceiling (freshRun R) es in
       let fresh : Kept R book 0 (freshRun R) (freshRun R) =
-      meet (freshReading R) (freshReading R) [] (omega arith) (initial-below rule) atTop refl refl in
+      meet (freshReading R) (freshReading R) [] [] refl (omega arith) (initial-below rule) atTop refl refl in
       let kept =
       feed-each (fullStep R room ceiling) (skipStep R book room ceiling) (InAll R book room ceiling total) (all-kept total)
       es (freshRun R) (freshRun R) (record { related = fresh .related; counted = omega arith }) all in
@@ -399,7 +491,7 @@ same-state (l ∷ τ) σ rule own along none = absurd (omega arith)
 ends-alike : {R : Rule} {book : List ℕ} {m s : Run} {j : Judged} → IsRule R → IsBook R book → Simulates R book m s
     → endOfRun R m ≡ given j → endOfRun R s ≡ given j
 unfolding endOf
-ends-alike rule own (simulates {r} {r′} {τ} {σ} along) judged =
+ends-alike rule own (simulates {r} {r′} {ls} {τ} {σ} stack along) judged =
     let passes = refuse-given 12 _ (0 <? r .depth + r .skip) _ judged in
     let flat : r .depth + r .skip ≤ 0 = ltb-false 0 _ (passes .0) in
     refuse-passes 12 _ _ (le-ltb 0 (r′ .depth + r′ .skip) (omega arith))

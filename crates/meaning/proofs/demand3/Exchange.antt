@@ -10,11 +10,11 @@ use lib.ListN.{length, length-append}
 use borrow.Author.Tests.{lt-ltb, ltb-true, leb-false, lt-leb, eqb-true}
 use Rattle.meaning.specs.declared.Reading.{Reading}
 use Rattle.meaning.specs.declared.Level.{Level}
-use Rattle.meaning.specs.Answers.{given, _≤?_, _<?_}
+use Rattle.meaning.specs.Answers.{given, _≤?_, _<?_, _=?_}
 use Rattle.meaning.specs.RuleFile.{Rule}
-use Rattle.meaning.specs.OpenLevels.{innermostOf, outerOf, runAfterOf}
+use Rattle.meaning.specs.OpenLevels.{innermostOf, outerOf, renewedOf, runAfterOf}
 use Rattle.meaning.specs.FullReading.{Event, opens, closes, letter, eventOf, mostEvents, letterTable, startTable, treeTable, freshRun}
-use Rattle.meaning.specs.FullReading.{Turn, stays, looked, newLevel, fullTurn, knownEvent}
+use Rattle.meaning.specs.FullReading.{Turn, stays, looked, newLevel, noLetter, topNamed, levelNamed, letterTurn, renewed, fullTurn, knownEvent}
 use Rattle.meaning.specs.FullReading.{Run, innermost, outer, runAfter, freshReading, Went, feedBy}
 use Rattle.meaning.specs.Hedges.{nestedOn, nestedFrom, knownEvents, wellNested}
 use Rattle.meaning.specs.Skipping.{held, settled, passed, endsLevel, settledTurn, skipTurn, skipEvent, skipStep, skipFrom, skipRun}
@@ -23,48 +23,57 @@ use Rattle.meaning.specs.Calls.{Judged, endOf, endOfRun}
 use Rattle.meaning.proofs.laws.Answered.{if-true, refuse-passes, refuse-given, giving-passes, and-true}
 use Rattle.meaning.proofs.laws.FeedLaws.{feed-none, feed-taken, feed-append, feed-split}
 use Rattle.meaning.proofs.laws.Truths.{true-is-not-false}
+use Rattle.meaning.proofs.laws.Letters.{if-both}
 use Rattle.meaning.proofs.laws.Following.{Follows, bothGive, refuse-each, if-each, look-each, giving-each, follows-so, feed-each}
 
 -- ---- the same but for places
 
--- the levels have the same states above them
-pub data SameAboves : List Level → List Level → Type 0 where
-  noLevel : SameAboves [] []
-  andLevel : {l l′ : Level} {ls ls′ : List Level} → l .above ≡ l′ .above → SameAboves ls ls′ → SameAboves (l ∷ ls) (l′ ∷ ls′)
+-- the levels have the same states above them and the same first letters
+pub data SameLevels : List Level → List Level → Type 0 where
+  noLevel : SameLevels [] []
+  andLevel : {l l′ : Level} {ls ls′ : List Level} → l .above ≡ l′ .above → l .first ≡ l′ .first → SameLevels ls ls′ → SameLevels (l ∷ ls) (l′ ∷ ls′)
 
 -- two runs that differ at most in the events taken and in the places of openings
 pub record SameButPlaces (m m′ : Run) : Type 0 where
   pub state : m .reading .state ≡ m′ .reading .state
+  pub first : m .reading .first ≡ m′ .reading .first
   pub depth : m .reading .depth ≡ m′ .reading .depth
   pub skip : m .reading .skip ≡ m′ .reading .skip
   pub looks : m .reading .looks ≡ m′ .reading .looks
-  pub aboves : SameAboves (m .levels) (m′ .levels)
+  pub levels : SameLevels (m .levels) (m′ .levels)
 
 -- a reading that has taken so many events, and a record of an opening at such a place, otherwise the same
 abbrev atPlace : ℕ → Reading → Reading
-atPlace t r = record { state = r .state; depth = r .depth; skip = r .skip; taken = t; looks = r .looks }
+atPlace t r = record { state = r .state; first = r .first; depth = r .depth; skip = r .skip; taken = t; looks = r .looks }
 
 abbrev openedAt : ℕ → Level → Level
-openedAt t l = record { above = l .above; opened = t }
+openedAt t l = record { above = l .above; first = l .first; opened = t }
 
-same-aboves : (ls : List Level) → SameAboves ls ls
-same-aboves [] = noLevel
-same-aboves (l ∷ ls) = andLevel refl (same-aboves ls)
+same-levels : (ls : List Level) → SameLevels ls ls
+same-levels [] = noLevel
+same-levels (l ∷ ls) = andLevel refl refl (same-levels ls)
 
-same-outer : {ls ls′ : List Level} → SameAboves ls ls′ → SameAboves (outer ls) (outer ls′)
+same-outer : {ls ls′ : List Level} → SameLevels ls ls′ → SameLevels (outer ls) (outer ls′)
 unfolding outerOf
 same-outer noLevel = noLevel
-same-outer (andLevel same rest) = rest
+same-outer (andLevel same first rest) = rest
 
-same-innermost : {ls ls′ : List Level} → SameAboves ls ls′ → innermost ls′ ≡ openedAt (innermost ls′ .opened) (innermost ls)
+same-renewed : {ls ls′ : List Level} (l l′ : Level) → l .above ≡ l′ .above → l .first ≡ l′ .first → SameLevels ls ls′
+    → SameLevels (renewed l ls) (renewed l′ ls′)
+unfolding renewedOf
+same-renewed l l′ above first noLevel = noLevel
+same-renewed l l′ above first (andLevel same letters rest) = andLevel above first rest
+
+same-innermost : {ls ls′ : List Level} → SameLevels ls ls′ → innermost ls′ ≡ openedAt (innermost ls′ .opened) (innermost ls)
 unfolding innermostOf
 same-innermost noLevel = refl
-same-innermost (andLevel {l} {l′} same rest) = λ i. record { above = sym same i; opened = l′ .opened }
+same-innermost (andLevel {l} {l′} same first rest) = λ i. record { above = sym same i; first = sym first i; opened = l′ .opened }
 
 same-reading : {m m′ : Run} → SameButPlaces m m′ → m′ .reading ≡ atPlace (m′ .reading .taken) (m .reading)
 same-reading {m} {m′} same =
     λ i. record {
       state = sym (same .state) i;
+      first = sym (same .first) i;
       depth = sym (same .depth) i;
       skip = sym (same .skip) i;
       taken = m′ .reading .taken;
@@ -79,44 +88,54 @@ record Further (t t′ : ℕ) (m m′ : Run) : Type 0 where
   taken : m .reading .taken ≡ t + 1
   taken′ : m′ .reading .taken ≡ t′ + 1
 
-further : {q d k c : ℕ} (t t′ : ℕ) {ls ls′ : List Level} → SameAboves ls ls′
-    → Further t t′ (record { reading = record { state = q; depth = d; skip = k; taken = t + 1; looks = c }; levels = ls })
-    (record { reading = record { state = q; depth = d; skip = k; taken = t′ + 1; looks = c }; levels = ls′ })
-further t t′ aboves =
+further : {q a d k c : ℕ} (t t′ : ℕ) {ls ls′ : List Level} → SameLevels ls ls′
+    → Further t t′ (record { reading = record { state = q; first = a; depth = d; skip = k; taken = t + 1; looks = c }; levels = ls })
+    (record { reading = record { state = q; first = a; depth = d; skip = k; taken = t′ + 1; looks = c }; levels = ls′ })
+further t t′ levels =
     record {
-      same = record { state = refl; depth = refl; skip = refl; looks = refl; aboves = aboves };
+      same = record { state = refl; first = refl; depth = refl; skip = refl; looks = refl; levels = levels };
       taken = refl;
       taken′ = refl;
     }
 
 module _ (R : Rule) (book : List ℕ) (room ceiling : ℕ) (r : Reading) (top : Level) (t o : ℕ)
-    (ls ls′ : List Level) (aboves : SameAboves ls ls′) where
+    (ls ls′ : List Level) (levels : SameLevels ls ls′) where
   abbrev Both : Turn → Turn → Type 0
   Both turn turn′ = Further (r .taken) t (runAfter ls turn) (runAfter ls′ turn′)
+
+  -- a letter is on both sides the first of its level, or on neither
+  letter-same : (a q : ℕ)
+      → Both (letterTurn a top (looked r q (r .depth))) (letterTurn a (openedAt o top) (looked (atPlace t r) q (r .depth)))
+  unfolding letterTurn topNamed levelNamed looked runAfterOf
+  letter-same a q =
+      if-both Both (r .depth =? 0) (λ flat. further (r .taken) t levels)
+      λ deep. if-both Both (top .first =? noLetter)
+      (λ mark. further (r .taken) t (same-renewed (levelNamed a top) (levelNamed a (openedAt o top)) refl refl levels))
+      (λ lettered. further (r .taken) t levels)
 
   full-same : (v : Event)
       → Follows Both (fullTurn R room ceiling r top v) (fullTurn R room ceiling (atPlace t r) (openedAt o top) v)
   unfolding fullTurn looked newLevel runAfterOf
   full-same (letter a) =
       refuse-each 9 _ _ _ _ (λ free. free)
-      λ free. look-each letterTable _ _ _ _ refl λ q leads. bothGive (further (r .taken) t aboves)
+      λ free. look-each letterTable _ _ _ _ refl λ q leads. bothGive (letter-same a q)
   full-same opens =
       refuse-each 8 _ _ _ _ (λ fits. fits)
       λ fits. refuse-each 9 _ _ _ _ (λ free. free)
-      λ free. look-each startTable _ _ _ _ refl λ q leads. bothGive (further (r .taken) t (andLevel refl aboves))
+      λ free. look-each startTable _ _ _ _ refl λ q leads. bothGive (further (r .taken) t (andLevel refl refl levels))
   full-same closes =
       refuse-each 7 _ _ _ _ (λ deep. deep)
       λ deep. refuse-each 9 _ _ _ _ (λ free. free)
-      λ free. look-each treeTable _ _ _ _ refl λ q leads. bothGive (further (r .taken) t (same-outer aboves))
+      λ free. look-each treeTable _ _ _ _ refl λ q leads. bothGive (further (r .taken) t (same-outer levels))
 
   settled-same : (v : Event)
       → Follows Both (settledTurn R book room ceiling r top v) (settledTurn R book room ceiling (atPlace t r) (openedAt o top) v)
   unfolding settledTurn endsLevel held passed runAfterOf
-  settled-same (letter a) = bothGive (further (r .taken) t aboves)
-  settled-same opens = bothGive (further (r .taken) t aboves)
+  settled-same (letter a) = bothGive (further (r .taken) t levels)
+  settled-same opens = bothGive (further (r .taken) t levels)
   settled-same closes =
-      if-each _ (λ more. bothGive (further (r .taken) t aboves))
-      λ last. if-each _ (λ holds. bothGive (further (r .taken) t (same-outer aboves))) (λ free. full-same closes)
+      if-each _ (λ more. bothGive (further (r .taken) t levels))
+      λ last. if-each _ (λ holds. bothGive (further (r .taken) t (same-outer levels))) (λ free. full-same closes)
 
   event-same : (e : ℕ) → ((mostEvents ≤? r .taken) ≡ false → (mostEvents ≤? t) ≡ false)
       → Follows (λ turn turn′. (r .taken < mostEvents) × Both turn turn′) (skipEvent R book room ceiling r top e)
@@ -143,7 +162,7 @@ record Ready (es : List ℕ) (m m′ : Run) : Type 0 where
   limit : m′ .reading .taken + length es ≤ mostEvents
 
 same-itself : (m : Run) → SameButPlaces m m
-same-itself m = record { state = refl; depth = refl; skip = refl; looks = refl; aboves = same-aboves (m .levels) }
+same-itself m = record { state = refl; first = refl; depth = refl; skip = refl; looks = refl; levels = same-levels (m .levels) }
 
 module _ (R : Rule) (book : List ℕ) (room ceiling : ℕ) where
   -- where a run takes an event, so does one that is the same but for places, within the event limit
@@ -154,9 +173,9 @@ module _ (R : Rule) (book : List ℕ) (room ceiling : ℕ) where
   unfolding skipStep
   step-same m m′ e same limit =
       giving-each
-      (rw (same-reading same, same-innermost (same .aboves))
+      (rw (same-reading same, same-innermost (same .levels))
       (event-same R book room ceiling (m .reading) (innermost (m .levels)) (m′ .reading .taken) _ (m .levels) (m′ .levels)
-      (same .aboves) e limit))
+      (same .levels) e limit))
       (λ turn turn′ both. bothGive both)
 
   limited : (n total e : ℕ) (es : List ℕ) (m m′ : Run) → Limited n total (e ∷ es) m m′
@@ -197,7 +216,7 @@ module _ (R : Rule) (book : List ℕ) (room ceiling : ℕ) (r : Reading) (ls : L
   -- on that level with d more trees open, after t events
   abbrev onLevel : ℕ → ℕ → Run
   onLevel d t =
-      record { reading = record { state = r .state; depth = r .depth; skip = r .skip + d; taken = t; looks = r .looks }; levels = ls }
+      record { reading = record { state = r .state; first = r .first; depth = r .depth; skip = r .skip + d; taken = t; looks = r .looks }; levels = ls }
 
   nested-turn : (t d : ℕ) (v : Event) (rest : ℕ → Bool) → nestedOn d v rest ≡ true
       → (d′ : ℕ) × (rest d′ ≡ true)
@@ -274,7 +293,7 @@ module _ (R : Rule) (book : List ℕ) (room ceiling : ℕ) where
   exchange-after m n n′ zs limit all =
       let step = skipStep R book room ceiling in
       let same : SameButPlaces (later n m) (later n′ m) =
-      record { state = refl; depth = refl; skip = refl; looks = refl; aboves = same-aboves (m .levels) } in
+      record { state = refl; first = refl; depth = refl; skip = refl; looks = refl; levels = same-levels (m .levels) } in
       let both =
       feed-each step step Ready (ready R book room ceiling) zs (later n m) (later n′ m)
       (record { same = same; limit = limit }) all in

@@ -6,11 +6,11 @@ use Prim.Native.Nat.{ℕ}
 use lib.Count.{ones, onesIn}
 use Rattle.meaning.specs.Answers.{if_then_else_, refuse_at_when_otherwise_, _andThen_, _giving_}
 use Rattle.meaning.specs.RuleFile.{bytes2, bytes4, number2, number4, part, asMove, letterMove, treeMove, treeStartMove, classOf, isStates, isLetters, isState, isMove, isClass, letterRecord, treeRecord, classRecord, fileLength, ruleOf, numbersCheck, tableCheck, recordCheck, checkRule}
-use Rattle.meaning.specs.FullReading.{eventOf, freshReading, looked, noMoveNumber, look, newLevel, fullTurn, knownEvent, fullEvent, blank, goOn, feedBy}
-use Rattle.meaning.specs.SkipBook.{Still, noneOr, Hold, anyBelow, allBelow, listed, marked, goesTo, oneMove, round, rounds, startMarks, endRound, endsIn, endMarks, onlyState, reachedIn, adds, reachMarks, stillMarks, holdMarks, wordOf, bit, bookOf, inStill, inHold, bookCheck}
-use Rattle.meaning.specs.Skipping.{held, settled, passed, endsLevel, settledTurn, skipTurn, skipEvent}
 use Rattle.meaning.specs.OpenLevels.{storedAfterOf}
-use Rattle.meaning.specs.Calls.{topOf, storedAfter, storeStep, notReading, readingCheck, fedFrom, feedCall, openPlace, endOf, finishCall, finishFed}
+use Rattle.meaning.specs.FullReading.{eventOf, freshReading, looked, noMoveNumber, look, newLevel, firstLetter, topNamed, levelNamed, letterTurn, fullTurn, knownEvent, fullEvent, blank, goOn, feedBy}
+use Rattle.meaning.specs.SkipBook.{Still, noneOr, Hold, anyBelow, allBelow, listed, marked, goesTo, oneMove, round, rounds, startMarks, endRound, endMarks, onlyState, reachMarks, stillMarks, holdMarks, wordOf, bit, bookOf, inStill, inHold, bookCheck}
+use Rattle.meaning.specs.Skipping.{held, settled, passed, endsLevel, settledTurn, skipTurn, skipEvent}
+use Rattle.meaning.specs.Calls.{topOf, storedAfter, storeStep, isFirst, notReading, readingCheck, fedFrom, feedCall, openPlace, endOf, finishCall, finishFed}
 use Rattle.meaning.specs.CheckProgram.{eventsIn, eventsHeader, eventsBody, eventsPlace, frontCheck, inputCheck, lineFrom, programFed, lineWith, skipLine, fullLine, digitsIn, decimal, spaced, skipWord, fullWord, classWord, lineEnd, lineBytes, printedFor, printed}
 use Rattle.meaning.specs.Cases.{ruleA}
 
@@ -30,5 +30,5 @@ exampleOutput =
     ∷ 0x20 ∷ 0x32 ∷ 0x20 ∷ 0x36 ∷ 0x20 ∷ 0x36 ∷ 0x0A ∷ []
 
 pub example-printed : printed exampleInput ≡ exampleOutput
-unfolding ones onesIn if_then_else_ refuse_at_when_otherwise_ _andThen_ _giving_ bytes2 bytes4 number2 number4 part asMove letterMove treeMove treeStartMove classOf isStates isLetters isState isMove isClass letterRecord treeRecord classRecord fileLength ruleOf numbersCheck tableCheck recordCheck checkRule eventOf freshReading looked noMoveNumber look newLevel fullTurn knownEvent fullEvent blank goOn feedBy Still noneOr Hold anyBelow allBelow listed marked goesTo oneMove round rounds startMarks endRound endsIn endMarks onlyState reachedIn adds reachMarks stillMarks holdMarks wordOf bit bookOf inStill inHold bookCheck held settled passed endsLevel settledTurn skipTurn skipEvent topOf storedAfterOf storeStep notReading readingCheck fedFrom feedCall openPlace endOf finishCall finishFed eventsIn eventsHeader eventsBody eventsPlace frontCheck inputCheck lineFrom programFed lineWith skipLine fullLine digitsIn decimal spaced skipWord fullWord classWord lineEnd lineBytes printedFor printed ruleA exampleInput exampleOutput
+unfolding ones onesIn if_then_else_ refuse_at_when_otherwise_ _andThen_ _giving_ bytes2 bytes4 number2 number4 part asMove letterMove treeMove treeStartMove classOf isStates isLetters isState isMove isClass letterRecord treeRecord classRecord fileLength ruleOf numbersCheck tableCheck recordCheck checkRule eventOf freshReading looked noMoveNumber look newLevel firstLetter topNamed levelNamed letterTurn fullTurn knownEvent fullEvent blank goOn feedBy Still noneOr Hold anyBelow allBelow listed marked goesTo oneMove round rounds startMarks endRound endMarks onlyState reachMarks stillMarks holdMarks wordOf bit bookOf inStill inHold bookCheck held settled passed endsLevel settledTurn skipTurn skipEvent topOf storedAfterOf storeStep isFirst notReading readingCheck fedFrom feedCall openPlace endOf finishCall finishFed eventsIn eventsHeader eventsBody eventsPlace frontCheck inputCheck lineFrom programFed lineWith skipLine fullLine digitsIn decimal spaced skipWord fullWord classWord lineEnd lineBytes printedFor printed ruleA exampleInput exampleOutput
 example-printed = refl

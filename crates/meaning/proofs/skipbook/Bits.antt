@@ -3,20 +3,20 @@ use mathlib.Core.Path.{_≡_, refl, sym, ap, ap₂, _∙_}
 use mathlib.Core.Logic.{⊎-elim}
 use mathlib.Core.Bool.{Bool, true, false, not, _&&_, _||_, xor}
 use mathlib.Core.List.{List, [], _∷_}
-use Prim.Native.Nat.{ℕ, zero, suc, _+_, _-_, _*_, _/_, _%_, _^_, _≤_, _<_, min, max}
+use Prim.Native.Nat.{ℕ, zero, suc, _+_, _-_, _*_, _/_, _%_, _^_, _≤_, _<_, min, max, zero-le}
 use native.Mathlib.Nat.{div-one, pow-suc, div-eq-of-lt, lt-of-lt-of-le}
 use native.Mathlib.Numerals.{one-add}
 use native.Mathlib.Omega.{arith}
 use lib.Dec.{eqb·zero-suc, eqb·suc-zero, eqb·suc-suc}
 use lib.ListN.{length}
 use lib.Arith.{bin-ind}
-use lib.Pow.{shr-shr, pow-mono}
-use lib.Bits.{bitAnd, bitOr, bitXor, differ, and-step, or-step, xor-step, and-le-r}
+use lib.Pow.{shr-shr, pow-mono, pow-pos}
+use lib.Bits.{bitAnd, bitOr, bitXor, differ, and-step, or-step, xor-step, and-le-r, or-add-and}
 use lib.Count.{trailingZeros, under}
-use borrow.Author.Tests.{eqb-true, eqb-false}
-use Rattle.meaning.specs.Answers.{_=?_}
+use borrow.Author.Tests.{eqb-true, eqb-false, ltb-true, ltb-false, lt-ltb, le-ltb}
+use Rattle.meaning.specs.Answers.{_=?_, _<?_}
 use Rattle.meaning.specs.SkipBook.{marked, wordOf, bit}
-use Rattle.meaning.proofs.laws.Truths.{truth}
+use Rattle.meaning.proofs.laws.Truths.{truth, same-truth, true-is-not-false, or-cases, or-true-right}
 
 -- ---- digit by digit
 
@@ -137,6 +137,30 @@ bit-only zero zero = bit-low 1 1 refl
 bit-only zero (suc p) = bit-half 1 0 p refl ∙ bit-zero p ∙ sym (eqb·zero-suc p)
 bit-only (suc t) zero = bit-low (2 ^ suc t) 0 (omega (arith, pow-suc 2 t)) ∙ sym (eqb·suc-zero t)
 bit-only (suc t) (suc p) = bit-half (2 ^ suc t) (2 ^ t) p (omega (arith, pow-suc 2 t)) ∙ bit-only t p ∙ sym (eqb·suc-suc t p)
+
+-- ---- the first n, and more members
+
+pub bit-ones : (n p : ℕ) → bit (2 ^ n - 1) p ≡ (p <? n)
+bit-ones zero p = bit-zero p ∙ sym (le-ltb p zero zero-le)
+bit-ones (suc n) zero =
+    bit-low (2 ^ suc n - 1) 1 (omega (arith, pow-suc 2 n, pow-pos n)) ∙ sym (lt-ltb zero (suc n) (omega arith))
+bit-ones (suc n) (suc p) =
+    bit-half (2 ^ suc n - 1) (2 ^ n - 1) p (omega (arith, pow-suc 2 n, pow-pos n)) ∙ bit-ones n p
+    ∙ same-truth (p <? n) (suc p <? suc n) (λ t. lt-ltb (suc p) (suc n) (omega (arith, ltb-true p n t)))
+    (λ t. lt-ltb p n (omega (arith, ltb-true (suc p) (suc n) t)))
+
+-- a member of a word of k digits is below k
+pub bit-within : (k w p : ℕ) → w < 2 ^ k → bit w p ≡ true → p < k
+bit-within k w p h e =
+    ⊎-elim (λ t. ltb-true p k t) (λ f. true-is-not-false e (bit-past k w p h (ltb-false p k f))) (truth (p <? k))
+
+-- a word with more members is no less
+pub more-bits : (a b : ℕ) → ((p : ℕ) → bit a p ≡ true → bit b p ≡ true) → a ≤ b
+more-bits a b more =
+    let same : b ≡ bitOr a b =
+    same-bits b (bitOr a b) (λ p. same-truth (bit b p) (bit (bitOr a b) p) (λ t. bit-or a b p ∙ or-true-right (bit a p) t)
+    (λ t. ⊎-elim (more p) (λ e. e) (or-cases (bit a p) (bit b p) (sym (bit-or a b p) ∙ t)))) in
+    omega (arith, or-add-and a b, and-le-r a b, same)
 
 -- ---- the lowest member of a set that is not empty
 

@@ -13,12 +13,11 @@ use borrow.Author.Tests.{eqb-true, eq-eqb}
 use Rattle.meaning.specs.Answers.{Answer, given, refused, _=?_}
 use Rattle.meaning.specs.RuleFile.{Rule, IsRule, treeMove}
 use Rattle.meaning.specs.SkipBook.{Reach, Still, Hold, noneOr, allBelow, listed, marked, reachMarks, stillMarks, holdMarks, wordOf, bit, bookOf, inStill, inHold, IsBook, makeBook, bookAfter}
-use Rattle.meaning.proofs.laws.Answered.{refuse-passes}
 use Rattle.meaning.proofs.laws.Truths.{implied, implies}
 use Rattle.meaning.proofs.laws.Bools.{all-below, below-all, listed-length, listed-at}
-use Rattle.meaning.proofs.skipbook.BookLong.{long-passes}
+use Rattle.meaning.proofs.skipbook.BookLong.{long-passes, short-stops}
 use Rattle.meaning.proofs.skipbook.Marks.{listed-each, marked-below}
-use Rattle.meaning.proofs.skipbook.Rounds.{marks-are-reach, reach-never-used-up, never-used-up}
+use Rattle.meaning.proofs.skipbook.Rounds.{marks-are-reach}
 use Rattle.meaning.proofs.skipbook.Reaching.{reach-below}
 use Rattle.meaning.proofs.skipbook.Bits.{bit-word, word-below}
 
@@ -66,7 +65,7 @@ module _ (R : Rule) (rest : List ℕ) where
 
 module _ (R : Rule) (rule : IsRule R) where
   reach-of : (q : ℕ) → q < R .states → (p : ℕ) → (marked (reachMarks R q) p ≡ true) ↔ Reach R q p
-  reach-of q h = marks-are-reach R rule q h (reach-never-used-up R rule q h)
+  reach-of q h = marks-are-reach R rule q h
 
   -- what holds of all marks of Reach(q) holds of all of Reach(q)
   all-of-reach : (test : ℕ → Bool) (q : ℕ) → q < R .states
@@ -76,14 +75,14 @@ module _ (R : Rule) (rule : IsRule R) where
     λ f. below-all (R .states) _ (λ p l. implies (marked (reachMarks R q) p) (test p) (λ m. f p (reach-of q h p .0 m))),
   )
 
-  still-is : (q : ℕ) → q < R .states → (marked (stillMarks R) q ≡ true) ↔ Still R q
+  pub still-is : (q : ℕ) → q < R .states → (marked (stillMarks R) q ≡ true) ↔ Still R q
   unfolding stillMarks Still
   still-is q h =
       let both = all-of-reach (λ p. p =? q) q h in
       let at = marked-below (R .states) (λ q. allBelow (R .states) (λ p. not (marked (reachMarks R q) p) || p =? q)) q h in
       iff at (λ e p r. eqb-true p q (both .0 e p r), λ f. both .1 (λ p r. eq-eqb p q (f p r)))
 
-  hold-is : (u p : ℕ) → p < R .states → (marked (holdMarks R u) p ≡ true) ↔ Hold R u p
+  pub hold-is : (u p : ℕ) → p < R .states → (marked (holdMarks R u) p ≡ true) ↔ Hold R u p
   unfolding holdMarks Hold
   hold-is u p h =
       let both = all-of-reach (λ p′. noneOr u (treeMove R u p′)) p h in
@@ -111,7 +110,10 @@ module _ {A : Type 0} (answer : Answer A) (R : Rule) (book : List ℕ) where
   after-given e = rw (e, bookAfter)
 
 -- every rule has its book made, where there is room for it
-pub always-made : (R : Rule) (book : List ℕ) → IsRule R → R .states + 1 ≤ length book
-    → makeBook R book ≡ given (ones (wordOf (stillMarks R)))
+pub always-made : (R : Rule) (book : List ℕ) → R .states + 1 ≤ length book → makeBook R book ≡ given (ones (wordOf (stillMarks R)))
 unfolding makeBook
-always-made R book rule room = long-passes R book _ room ∙ refuse-passes 15 0 _ (never-used-up R rule)
+always-made R book room = long-passes R book _ room
+
+pub short-made : (R : Rule) (book : List ℕ) → length book < R .states + 1 → makeBook R book ≡ refused 6 0
+unfolding makeBook
+short-made R book short = short-stops R book _ short

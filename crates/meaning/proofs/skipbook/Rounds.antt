@@ -1,39 +1,24 @@
--- When a round adds nothing, the marks are the set that they are to find: the states in which a tree can end, and Reach. What a
--- round marks was marked or is one move away, so what is marked is in the set; marks that a round does not add to hold the start
--- and are closed under moves, so they hold all of it. And the 64th round never adds: before it each round added a state.
+-- The marks are the set that they are to find: the states in which a tree can end, and Reach. What a round marks was marked or is
+-- one move away, so what is marked is in the set; marks that a round does not add to hold the start and are closed under moves,
+-- so they hold all of it. And rounds end: as long as they add they mark one state more each, so of n states the n-th round adds
+-- none, and of at most 64 the 64th adds none.
 use mathlib.Core.Path.{_≡_, refl, sym, ap, ap₂, _∙_, subst}
 use mathlib.Core.Logic.{⊎-elim, _↔_}
 use mathlib.Core.Bool.{Bool, true, false, not, _&&_, _||_, false≢true}
 use mathlib.Core.List.{List}
 use Prim.Native.Nat.{ℕ, zero, suc, _≤_, _<_}
 use native.Mathlib.Omega.{arith}
-use lib.ListN.{length}
 use borrow.Author.Tests.{leb-true, eqb-true, eq-eqb, not-true}
 use Rattle.meaning.specs.Answers.{_=?_, _≤?_}
-use Rattle.meaning.specs.RuleFile.{Rule, IsRule, Move, noMove, to, none, asMove, letterMove, treeMove, treeStartMove, isStates}
-use Rattle.meaning.specs.SkipBook.{CanEndTree, startEnds, letterEnds, treeEnds, Reach, itself, byLetter, byTree, anyBelow, marked, goesTo, oneMove, round, rounds, startMarks, endRound, endsIn, endMarks, onlyState, reachedIn, adds, reachMarks, roundsUsedUp}
-use Rattle.meaning.proofs.laws.Answered.{if-true, if-false, and-true, both-true}
+use Rattle.meaning.specs.RuleFile.{Rule, IsRule, Move, noMove, to, none, letterMove, treeMove, treeStartMove, isStates}
+use Rattle.meaning.specs.SkipBook.{CanEndTree, startEnds, letterEnds, treeEnds, Reach, itself, byLetter, byTree, anyBelow, marked, goesTo, oneMove, round, rounds, startMarks, endRound, endMarks, onlyState, reachMarks}
+use Rattle.meaning.proofs.laws.Answered.{and-true, both-true}
 use Rattle.meaning.proofs.skipbook.Reaching.{letter-below, tree-below, start-below, ends-below, no-start-no-ends, reach-below}
-use Rattle.meaning.proofs.laws.Truths.{truth, same-truth, or-cases, or-true-left, or-true-right, true-is-not-false, not-true-false, both-false, not-without, never-both}
-use Rattle.meaning.proofs.laws.Bools.{below-any, any-below, no-below-any, any-below-fails, any-below-same, listed-length, listed-same}
+use Rattle.meaning.proofs.laws.Truths.{truth, same-truth, or-cases, or-true-left, or-true-right, true-is-not-false, not-true-false, not-without, never-both}
+use Rattle.meaning.proofs.laws.Bools.{below-any, any-below, no-below-any, any-below-fails, any-below-same, listed-same}
 use Rattle.meaning.proofs.skipbook.Marks.{marked-below, marked-true, countBelow, count-most, count-less, count-some}
 
 -- ---- moves
-
-pub none-is : {x : ℕ} → x ≡ none → asMove x ≡ noMove
-unfolding asMove
-none-is {x} e = if-true noMove (to x) (eq-eqb x none e)
-
--- a move to a state is a byte that is not none, and that state
-pub move-to : (x : ℕ) {q : ℕ} → asMove x ≡ to q → ((x =? none) ≡ false) × (x ≡ q)
-unfolding asMove
-move-to x {q} e = ⊎-elim no-move some (truth (x =? none))
-  where
-    no-move : (x =? none) ≡ true → ((x =? none) ≡ false) × (x ≡ q)
-    no-move t = let z : _≡_ {A = ℕ} 0 1 = cc (if-true noMove (to x) t) in absurd (omega arith)
-
-    some : (x =? none) ≡ false → ((x =? none) ≡ false) × (x ≡ q)
-    some f = (f, cc (if-false noMove (to x) f))
 
 pub goes-to : (p : ℕ) {m : Move} → m ≡ to p → goesTo p m ≡ true
 unfolding goesTo
@@ -79,10 +64,6 @@ module _ (R : Rule) (lowers : List Bool) where
           let b = and-true (marked lowers (s .0)) _ (s .2) in
           trees (s .0) (s .1) (b .0) (goes-true p′ _ (b .1))
 
-  -- it leads to a state
-  pub one-below : IsRule R → (p p′ : ℕ) → oneMove R lowers p p′ ≡ true → p′ < R .states
-  one-below rule p p′ e = one-by p p′ e (λ a h. letter-below rule p a) (λ lower h c. tree-below rule p lower)
-
   -- ---- one round
 
   pub round-at : (marks : List Bool) (p : ℕ) → p < R .states
@@ -106,10 +87,6 @@ module _ (R : Rule) (lowers : List Bool) where
       moved (s .0) (b .0) (b .1))
       (or-cases (marked marks p′) _ (round-true marks p′ e .1))
 
-  pub round-length : (marks : List Bool) → length (round R lowers marks) ≡ R .states
-  unfolding round
-  round-length marks = listed-length (R .states) _
-
   -- a round keeps the marks
   pub round-keeps : (marks : List Bool) (p : ℕ) → p < R .states → marked marks p ≡ true → marked (round R lowers marks) p ≡ true
   round-keeps marks p h e = round-at marks p h ∙ or-true-left _ e
@@ -121,6 +98,10 @@ module _ (R : Rule) (lowers : List Bool) where
       round-at marks p′ h′
       ∙ or-true-right (marked marks p′)
       (below-any (R .states) (λ q. marked marks q && oneMove R lowers q p′) p h (both-true e one))
+
+-- some state is marked in the second and not in the first
+unfoldable pub adds : Rule → List Bool → List Bool → Bool
+adds R before after = anyBelow (R .states) (λ p. marked after p && not (marked before p))
 
 -- where a round adds nothing, what it marks was marked
 pub nothing-added : (R : Rule) (before after : List Bool) → adds R before after ≡ false → (p : ℕ) → p < R .states
@@ -207,17 +188,21 @@ module _ (R : Rule) (step : List Bool → List Bool)
         let more = adds-more (after (suc i)) (rw (next-round (suc i)) at e) in
         rw (next-round (suc i)) (omega (arith, many-marked i added, more))
 
-    -- so with at most 64 states the 64th round adds none
-    pub last-adds-none : R .states ≤ 64 → adds R (rounds step 63 start) (rounds step 64 start) ≡ false
-    last-adds-none few =
-        ⊎-elim (λ e. absurd (omega (arith, many-marked 63 e, count-most (R .states) (marked (after 64)), few))) (λ f. f)
-        (truth (adds R (after 63) (after 64)))
+    -- so of n states the n-th round adds none, and no round after it
+    pub last-adds-none : (i : ℕ) → R .states ≤ suc i → adds R (rounds step i start) (rounds step (suc i) start) ≡ false
+    last-adds-none i few =
+        ⊎-elim (λ e. absurd (omega (arith, many-marked i e, count-most (R .states) (marked (after (suc i))), few))) (λ f. f)
+        (truth (adds R (after i) (after (suc i))))
 
 pub most-states : {R : Rule} → IsRule R → R .states ≤ 64
 unfolding isStates
 most-states {R} rule = leb-true (R .states) 64 (and-true (1 ≤? R .states) _ (rule .statesIn) .1)
 
 -- ---- the states in which a tree can end
+
+-- after so many rounds
+unfoldable pub endsIn : Rule → ℕ → List Bool
+endsIn R i = rounds (endRound R) i (startMarks R)
 
 module _ (R : Rule) where
   pub end-keeps : (marks : List Bool) (p : ℕ) → p < R .states → marked marks p ≡ true → marked (endRound R marks) p ≡ true
@@ -232,10 +217,6 @@ module _ (R : Rule) where
   pub start-true : (p : ℕ) → marked (startMarks R) p ≡ true → treeStartMove R ≡ to p
   unfolding startMarks
   start-true p e = goes-true p (treeStartMove R) (marked-true (R .states) (λ q. goesTo q (treeStartMove R)) p e .1)
-
-  pub start-length : length (startMarks R) ≡ R .states
-  unfolding startMarks
-  start-length = listed-length (R .states) _
 
   pub start-is-marked : IsRule R → {p : ℕ} → treeStartMove R ≡ to p → marked (startMarks R) p ≡ true
   unfolding startMarks
@@ -268,30 +249,39 @@ module _ (R : Rule) where
   none-ends : treeStartMove R ≡ noMove → (i p : ℕ) → marked (endsIn R i) p ≡ false
   none-ends none i p = not-true-false _ (λ t. no-start-no-ends none (marked-ends i p t))
 
-  -- the 64th round never adds
-  pub ends-never-used-up : IsRule R → adds R (endsIn R 63) (endsIn R 64) ≡ false
+  -- of n states the n-th round adds none, and no round after it
+  pub ends-added : IsRule R → (i : ℕ) → R .states ≤ suc i → adds R (endsIn R i) (endsIn R (suc i)) ≡ false
   unfolding endsIn adds
-  ends-never-used-up rule = go (treeStartMove R) refl
+  ends-added rule i few = go (treeStartMove R) refl
     where
-      go : (x : Move) → treeStartMove R ≡ x → adds R (endsIn R 63) (endsIn R 64) ≡ false
-      go noMove e = any-below-fails (R .states) _ (λ p h. rw (none-ends e 64 p))
+      go : (x : Move) → treeStartMove R ≡ x → adds R (endsIn R i) (endsIn R (suc i)) ≡ false
+      go noMove e = any-below-fails (R .states) _ (λ p h. rw (none-ends e (suc i) p))
       go (to q) e =
-          last-adds-none R (endRound R) end-keeps end-alike (startMarks R) q (start-below rule e) (start-is-marked rule e)
-          (most-states rule)
+          last-adds-none R (endRound R) end-keeps end-alike (startMarks R) q (start-below rule e) (start-is-marked rule e) i few
 
-  -- so the marks are the states in which a tree can end
-  pub marks-are-ends : IsRule R → (p : ℕ) → (marked (endMarks R) p ≡ true) ↔ CanEndTree R p
-  unfolding endMarks endsIn rounds
-  marks-are-ends rule p = (
-    marked-ends 64 p,
-    λ ends. rw (next-round R (endRound R) end-keeps end-alike (startMarks R) 63)
-        (end-keeps (endsIn R 63) p (ends-below rule ends)
-        (ends-marked rule (endsIn R 63)
-        (λ q leads. start-stays R (endRound R) end-keeps end-alike (startMarks R) 63 q (start-below rule leads) (start-is-marked rule leads))
-        (ends-never-used-up rule) ends)),
+  -- so the 64th adds none
+  pub ends-64th-adds-none : IsRule R → adds R (endsIn R 63) (endsIn R 64) ≡ false
+  ends-64th-adds-none rule = ends-added rule 63 (most-states rule)
+
+  -- and the marks are the states in which a tree can end
+  pub ends-in : IsRule R → (i : ℕ) → R .states ≤ suc i → (p : ℕ) → (marked (endsIn R i) p ≡ true) ↔ CanEndTree R p
+  unfolding endsIn rounds
+  ends-in rule i few p = (
+    marked-ends i p,
+    ends-marked rule (endsIn R i)
+        (λ q leads. start-stays R (endRound R) end-keeps end-alike (startMarks R) i q (start-below rule leads) (start-is-marked rule leads))
+        (ends-added rule i few),
   )
 
+  pub marks-are-ends : IsRule R → (p : ℕ) → (marked (endMarks R) p ≡ true) ↔ CanEndTree R p
+  unfolding endMarks endsIn
+  marks-are-ends rule = ends-in rule (R .states) (omega arith)
+
 -- ---- Reach
+
+-- after so many rounds
+unfoldable pub reachedIn : Rule → ℕ → ℕ → List Bool
+reachedIn R i q = rounds (round R (endMarks R)) i (onlyState R q)
 
 module _ (R : Rule) where
   pub reach-keeps : (marks : List Bool) (p : ℕ) → p < R .states → marked marks p ≡ true
@@ -309,10 +299,6 @@ module _ (R : Rule) where
   pub only-start : (q : ℕ) → q < R .states → marked (onlyState R q) q ≡ true
   unfolding onlyState
   only-start q h = marked-below (R .states) (λ s. s =? q) q h ∙ eq-eqb q q refl
-
-  pub only-length : (q : ℕ) → length (onlyState R q) ≡ R .states
-  unfolding onlyState
-  only-length q = listed-length (R .states) _
 
   pub reached-first : (q : ℕ) → reachedIn R zero q ≡ onlyState R q
   unfolding reachedIn rounds
@@ -346,23 +332,25 @@ module _ (R : Rule) where
       closed R (endMarks R) marks e (reach-below rule h r) (tree-below rule p lower m) (reached-marked rule q marks h start e r)
       (tree-one R (endMarks R) p lower (ends-below rule c) (marks-are-ends R rule lower .1 c) m)
 
-  -- when the 64th round adds nothing, the marks are Reach
-  pub marks-are-reach : IsRule R → (q : ℕ) → q < R .states → adds R (reachedIn R 63 q) (reachedIn R 64 q) ≡ false
-      → (p : ℕ) → (marked (reachMarks R q) p ≡ true) ↔ Reach R q p
-  unfolding reachMarks
-  marks-are-reach rule q h e p = (
-    marked-reached rule 64 q p,
-    λ r. rw (reached-next 63 q) (reach-keeps (reachedIn R 63 q) p (reach-below rule h r)
-        (reached-marked rule q (reachedIn R 63 q) h (start-marked 63 q h) (rw (reached-next 63 q) at e) r)),
+  -- of n states the n-th round adds none, from any state, and no round after it
+  pub reach-added : IsRule R → (q : ℕ) → q < R .states → (i : ℕ) → R .states ≤ suc i
+      → adds R (reachedIn R i q) (reachedIn R (suc i) q) ≡ false
+  unfolding reachedIn
+  reach-added rule q h i few =
+      last-adds-none R (round R (endMarks R)) reach-keeps reach-alike (onlyState R q) q h (only-start q h) i few
+
+  -- so the 64th adds none
+  pub reach-64th-adds-none : IsRule R → (q : ℕ) → q < R .states → adds R (reachedIn R 63 q) (reachedIn R 64 q) ≡ false
+  reach-64th-adds-none rule q h = reach-added rule q h 63 (most-states rule)
+
+  -- and the marks are Reach
+  pub reached-in : IsRule R → (q : ℕ) → q < R .states → (i : ℕ) → R .states ≤ suc i
+      → (p : ℕ) → (marked (reachedIn R i q) p ≡ true) ↔ Reach R q p
+  reached-in rule q h i few p = (
+    marked-reached rule i q p,
+    reached-marked rule q (reachedIn R i q) h (start-marked i q h) (rw (reached-next i q) at (reach-added rule q h i few)),
   )
 
-  -- the 64th round never adds, from any state
-  pub reach-never-used-up : IsRule R → (q : ℕ) → q < R .states → adds R (reachedIn R 63 q) (reachedIn R 64 q) ≡ false
-  unfolding reachedIn
-  reach-never-used-up rule q h =
-      last-adds-none R (round R (endMarks R)) reach-keeps reach-alike (onlyState R q) q h (only-start q h) (most-states rule)
-
-pub never-used-up : (R : Rule) → IsRule R → roundsUsedUp R ≡ false
-unfolding roundsUsedUp
-never-used-up R rule =
-    both-false (ends-never-used-up R rule) (any-below-fails (R .states) _ (λ q h. reach-never-used-up R rule q h))
+  pub marks-are-reach : IsRule R → (q : ℕ) → q < R .states → (p : ℕ) → (marked (reachMarks R q) p ≡ true) ↔ Reach R q p
+  unfolding reachMarks reachedIn
+  marks-are-reach rule q h = reached-in rule q h (R .states) (omega arith)

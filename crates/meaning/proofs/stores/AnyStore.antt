@@ -1,6 +1,6 @@
 -- A lent store and the open levels are one, whatever a level holds: as long as the depth lies within the store, what is stored below
 -- the depth, the innermost first, are the open levels, whichever events are fed. It is said over any way of reading that stores an
--- open at its depth, takes one level off at a close, and at the top reads no level.
+-- open at its depth, writes none but the innermost level anew, takes one level off at a close, and at the top reads no level.
 use mathlib.Core.Path.{_≡_, refl, sym, ap, _∙_}
 use mathlib.Core.List.{List, [], _∷_}
 use Prim.Native.Nat.{ℕ, zero, suc, _+_, _-_, _≤_, _<_}
@@ -8,7 +8,7 @@ use native.Mathlib.Numerals.{add-one}
 use native.Mathlib.Omega.{arith}
 use Rattle.meaning.specs.Answers.{Answer, given, refused, _giving_}
 use Rattle.meaning.specs.FullReading.{Went, feedBy}
-use Rattle.meaning.specs.OpenLevels.{TurnOf, stays, stores, ends, RunOf, innermostOf, outerOf, runAfterOf, StoredOf, storedAfterOf}
+use Rattle.meaning.specs.OpenLevels.{TurnOf, stays, stores, names, ends, RunOf, innermostOf, outerOf, renewedOf, runAfterOf, StoredOf, storedAfterOf}
 use Rattle.meaning.proofs.laws.Answered.{giving-given}
 use Rattle.meaning.proofs.laws.FeedKeeps.{feed-keeps, feed-viewed}
 
@@ -49,6 +49,13 @@ module _ {L S : Type 0} {at : S → ℕ → L} {put : S → ℕ → L → S} {ro
   unfolding levelsIn
   levels-more d s l fits whole = rw (add-one d) (cc (store .same s d l fits whole, levels-past d d s l (omega arith) fits))
 
+  levels-renewed : (d : ℕ) (s : S) (l : L) → d ≤ room s → Whole l → renewedOf l (levelsIn at d s) ≡ levelsIn at d (put s (d - 1) l)
+  unfolding levelsIn renewedOf
+  levels-renewed zero s l h whole = refl
+  levels-renewed (suc d) s l h whole =
+      let back : suc d - 1 ≡ d = omega arith in
+      rw back (cc (store .same s d l (omega arith) whole, levels-past d d s l (omega arith) (omega arith)))
+
 -- ---- one event
 
 -- What a taken event does to the depth, where a reading is good: a level that is stored fits and is whole, and the reading after it
@@ -56,6 +63,7 @@ module _ {L S : Type 0} {at : S → ℕ → L} {put : S → ℕ → L → S} {ro
 pub data Fits {A L : Type 0} (depth : A → ℕ) (Good : A → Type 0) (Whole : L → Type 0) (room : ℕ) (r : A) : TurnOf A L → Type 0 where
   staysOn : {r′ : A} → Good r′ → depth r′ ≡ depth r → Fits depth Good Whole room r (stays r′)
   storesOne : {l : L} {r′ : A} → Good r′ → depth r < room → Whole l → depth r′ ≡ depth r + 1 → Fits depth Good Whole room r (stores l r′)
+  namesOne : {l : L} {r′ : A} → Good r′ → 0 < depth r → Whole l → depth r′ ≡ depth r → Fits depth Good Whole room r (names l r′)
   endsOne : {r′ : A} → Good r′ → depth r′ ≡ depth r - 1 → Fits depth Good Whole room r (ends r′)
 
 -- a way of reading: what an event leads to, by the room, the reading and the innermost level
@@ -100,14 +108,17 @@ module _ {A L S : Type 0} {at : S → ℕ → L} {put : S → ℕ → L → S} {
   turn-within r s (staysOn good same) w = record { stored = refl; within = omega arith; good = good }
   turn-within r s (storesOne {l} good fits whole deeper) w =
       record { stored = store .size s (depth r) l fits whole; within = omega arith; good = good }
+  turn-within r s (namesOne {l} good deep whole same) w =
+      record { stored = store .size s (depth r - 1) l (omega arith) whole; within = omega arith; good = good }
   turn-within r s (endsOne good less) w = record { stored = refl; within = omega arith; good = good }
 
-  turn-viewed : (r : A) (s : S) {turn : TurnOf A L} → Fits depth Good Whole (room s) r turn
+  turn-viewed : (r : A) (s : S) {turn : TurnOf A L} → depth r ≤ room s → Fits depth Good Whole (room s) r turn
       → runAfterOf (levelsIn at (depth r) s) turn ≡ viewOf (storedAfterOf put (depth r) s turn)
   unfolding storedAfterOf runAfterOf viewOf
-  turn-viewed r s (staysOn good same) = rw same refl
-  turn-viewed r s (storesOne {l} good fits whole deeper) = rw deeper (cc (levels-more store (depth r) s l fits whole))
-  turn-viewed r s (endsOne good less) = rw less (cc (levels-less at (depth r) s))
+  turn-viewed r s w (staysOn good same) = rw same refl
+  turn-viewed r s w (storesOne {l} good fits whole deeper) = rw deeper (cc (levels-more store (depth r) s l fits whole))
+  turn-viewed r s w (namesOne {l} good deep whole same) = rw same (cc (levels-renewed store (depth r) s l w whole))
+  turn-viewed r s w (endsOne good less) = rw less (cc (levels-less at (depth r) s))
 
   step-fits : (s : StoredOf A S) (e : ℕ) {turn : TurnOf A L} → Good (s .reading)
       → event (room (s .store)) (s .reading) (at (s .store) (depth (s .reading) - 1)) e ≡ given turn
@@ -139,7 +150,8 @@ module _ {A L S : Type 0} {at : S → ℕ → L} {put : S → ℕ → L → S} {
   unfolding viewOf
   step-viewed size s e w =
       rw (← w .stored, same-top (room (s .store)) (s .reading) (s .store) e)
-      (viewed-turn (s .reading) (s .store) _ (λ turn t. turn-viewed (s .reading) (s .store) (step-fits s e (w .good) t)))
+      (viewed-turn (s .reading) (s .store) _ (λ turn t.
+      turn-viewed (s .reading) (s .store) (omega (arith, w .stored, w .within)) (step-fits s e (w .good) t)))
 
   -- ---- any events
 

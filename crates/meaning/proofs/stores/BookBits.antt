@@ -105,6 +105,8 @@ module _ {R : Rule} (rule : IsRule R) where
           skipsSettled = λ h. sym alike ∙ i .skipsSettled h;
           nested = i .nested;
           looksIn = i .looksIn;
+          firstIn = i .firstIn;
+          firstsIn = i .firstsIn;
         }
 
     reading-passes : (r : Reading) (store : List Level) → notReading R book r store ≡ false → notReading R book′ r store ≡ false

@@ -9,10 +9,12 @@ use Rattle.meaning.specs.declared.Opened.{Opened}
 use Rattle.meaning.specs.declared.Opened.the-variants as opened
 use Rattle.meaning.specs.declared.End.{End}
 use Rattle.meaning.specs.declared.End.the-variants as end
+use Rattle.meaning.specs.declared.Traced.{Traced}
+use Rattle.meaning.specs.declared.Traced.the-variants as traced
 use Rattle.meaning.specs.declared.Feeding.{Feeding}
 use Rattle.meaning.specs.declared.Feeding.the-variants as feeding
 use Rattle.meaning.specs.Answers.{given}
-use Rattle.meaning.specs.Calls.{verdictSays, refusalSays, openedSays, endSays, feedingSays, Judged}
+use Rattle.meaning.specs.Calls.{verdictSays, refusalSays, openedSays, endSays, tracedSays, feedingSays, Judged}
 
 -- what was given is one
 pub given-says : {A : Type 0} (a b : A) → given a ≡ given b → a ≡ b
@@ -61,3 +63,10 @@ feeding-says feeding.AllTaken feeding.AllTaken e = refl
 feeding-says feeding.AllTaken (feeding.Refused b) e = cc
 feeding-says (feeding.Refused a) feeding.AllTaken e = cc
 feeding-says (feeding.Refused a) (feeding.Refused b) e = ap feeding.Refused (refusal-says a b e)
+
+pub traced-says : (a b : Traced) → tracedSays a ≡ tracedSays b → a ≡ b
+unfolding tracedSays refusalSays
+traced-says (traced.Letters a) (traced.Letters b) e = ap traced.Letters (given-says a b e)
+traced-says (traced.Letters a) (traced.Refused b) e = cc
+traced-says (traced.Refused a) (traced.Letters b) e = cc
+traced-says (traced.Refused a) (traced.Refused b) e = ap traced.Refused (refusal-says a b e)

@@ -1,26 +1,29 @@
 -- Opening: where it gives its answer, the file is accepted, the book had room and now holds the rule's skip book, the reading is the
 -- fresh one of that rule, and the count is of the states that are still. So whoever calls open, feed and finish has the premises
--- of what is proved of these calls; and every accepted file is opened, where there is room for its book.
-use mathlib.Core.Path.{_≡_, _∙_}
+-- of what is proved of these calls; and every accepted file is opened, where there is room for its book: nothing else refuses.
+use mathlib.Core.Path.{_≡_, refl, sym, ap, ap₂, _∙_}
+use mathlib.Core.Logic.{_⊎_, inl, inr, ⊎-elim}
 use mathlib.Core.List.{List}
-use Prim.Native.Nat.{ℕ, _+_, _≤_}
+use Prim.Native.Nat.{ℕ, _+_, _≤_, _<_}
 use native.Mathlib.Omega.{arith}
 use native.Mathlib.Nat.{not-suc-le-zero}
 use lib.Count.{ones}
 use lib.ListN.{length, drop, length-append, length-drop}
+use borrow.Author.Tests.{ltb-true, ltb-false}
 use Rattle.meaning.specs.declared.Level.{Level}
 use Rattle.meaning.specs.declared.Opening.{Opening}
-use Rattle.meaning.specs.Answers.{given, refused}
+use Rattle.meaning.specs.Answers.{Answer, given, refused, _<?_}
 use Rattle.meaning.specs.RuleFile.{Rule, checkRule, ruleOf}
 use Rattle.meaning.specs.FullReading.{freshReading}
 use Rattle.meaning.specs.SkipBook.{IsBook, wordOf, stillMarks, makeBook}
 use Rattle.meaning.specs.Calls.{openCall, openedBook, readingCheck}
 use Rattle.meaning.proofs.rulefile.Accepted.{accepted-rule, accepted-is-rule}
-use Rattle.meaning.proofs.laws.Answered.{giving-given, giving-passes, giving-stops, refuse-given}
+use Rattle.meaning.proofs.laws.Truths.{truth}
+use Rattle.meaning.proofs.laws.Answered.{giving-given, giving-passes, giving-stops}
 use Rattle.meaning.proofs.skipbook.BookLong.{long-given}
-use Rattle.meaning.proofs.skipbook.BookMade.{book-length, made-is-book, after-given, always-made}
+use Rattle.meaning.proofs.skipbook.BookMade.{book-length, made-is-book, after-given, always-made, short-made}
 use Rattle.meaning.proofs.stores.ReadingCheck.{check-passes}
-use Rattle.meaning.proofs.stores.KeptReading.{IsReading, reading-is}
+use Rattle.meaning.proofs.stores.KeptReading.{IsReading, reading-is, mark-in}
 
 -- ---- how it goes
 
@@ -53,9 +56,8 @@ open-says file book {o} e =
     let m = giving-given (makeBook (g .0) book) _ (g .2) in
     let same : ruleOf file ≡ g .0 = accepted-rule file (g .1) in
     let six = long-given (g .0) book _ (m .1) in
-    let fifteen = refuse-given 15 0 _ _ (six .1) in
     let first : o .reading ≡ freshReading (g .0) = cc (m .2) in
-    let still : o .still ≡ ones (wordOf (stillMarks (g .0))) = cc (m .2, fifteen .1) in
+    let still : o .still ≡ ones (wordOf (stillMarks (g .0))) = cc (m .2, six .1) in
     record {
       accepted = rw same (g .1);
       longEnough = rw same (six .0);
@@ -85,7 +87,31 @@ module _ (file book : List ℕ) {o : Opening} (opened : openCall file book ≡ g
 -- every accepted file is opened, where there is room for its book
 pub always-opens : (file book : List ℕ) {R : Rule} → checkRule file ≡ given R → R .states + 1 ≤ length book
     → openCall file book ≡ given (record { reading = freshReading R; still = ones (wordOf (stillMarks R)) })
-always-opens file book {R} e room = open-made file book e (always-made R book (accepted-is-rule file e) room)
+always-opens file book {R} e room = open-made file book e (always-made R book room)
+
+-- and one that is refused was refused by the rule check or, as 6 at 0, for a book shorter than n+1
+pub open-refusals : (file book : List ℕ) {number place : ℕ} → openCall file book ≡ refused number place
+    → (checkRule file ≡ refused number place)
+    ⊎ ((checkRule file ≡ given (ruleOf file)) × (length book < ruleOf file .states + 1) × (number ≡ 6) × (place ≡ 0))
+open-refusals file book {number} {place} e = go (checkRule file) refl
+  where
+    go : (x : Answer Rule) → checkRule file ≡ x
+        → (checkRule file ≡ refused number place)
+        ⊎ ((checkRule file ≡ given (ruleOf file)) × (length book < ruleOf file .states + 1) × (number ≡ 6) × (place ≡ 0))
+    go (refused i p) c =
+        let same : _≡_ {A = Answer Opening} (refused i p) (refused number place) = sym (open-unchecked file book c) ∙ e in
+        let n : i ≡ number = cc same in
+        let at-place : p ≡ place = cc same in
+        inl (c ∙ ap₂ (λ (a b : ℕ). refused a b) n at-place)
+    go (given R) c =
+        let same : ruleOf file ≡ R = accepted-rule file c in
+        ⊎-elim
+        (λ short. let h : length book < R .states + 1 = ltb-true (length book) (R .states + 1) short in
+        let six = open-unmade file book c (short-made R book h) in
+        inr (c ∙ ap given (sym same), rw same h, (cc (six, e)), (cc (six, e))))
+        (λ long. let opens = always-opens file book c (ltb-false (length book) (R .states + 1) long) in
+        let z : _≡_ {A = ℕ} 0 1 = cc (opens, e) in absurd (omega arith))
+        (truth (length book <? R .states + 1))
 
 -- ---- the fresh reading passes every check
 
@@ -101,6 +127,8 @@ fresh-reading file book store e =
       skipsSettled = λ h. absurd (not-suc-le-zero h);
       nested = omega arith;
       looksIn = omega arith;
+      firstIn = mark-in _;
+      firstsIn = λ i h. absurd (not-suc-le-zero h);
     }
 
 pub fresh-checked : (file book : List ℕ) (store : List Level) {R : Rule} → checkRule file ≡ given R → R .states + 1 ≤ length book

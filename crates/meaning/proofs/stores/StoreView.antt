@@ -12,17 +12,18 @@ use lib.Seq.{getD-set-same, getD-set-other, drop-set-lt}
 use borrow.Author.Tests.{eq-eqb}
 use Rattle.meaning.specs.declared.Reading.{Reading}
 use Rattle.meaning.specs.declared.Level.{Level}
-use Rattle.meaning.specs.Answers.{Answer, given, refused, _giving_}
-use Rattle.meaning.specs.RuleFile.{Rule}
-use Rattle.meaning.specs.FullReading.{Event, opens, closes, letter, eventOf, Turn, Run, Went, looked, newLevel, fullTurn, blank, innermost, outer, runAfter, feedBy}
+use Rattle.meaning.specs.Answers.{Answer, given, refused, refuse_at_when_otherwise_, _giving_, _≤?_}
+use Rattle.meaning.specs.RuleFile.{Rule, letterMove}
+use Rattle.meaning.specs.FullReading.{Event, opens, closes, letter, eventOf, letterTable, look, Turn, Run, Went, looked, newLevel, noLetter, topNamed, levelNamed, letterTurn, fullTurn, blank, innermost, outer, renewed, runAfter, feedBy}
 use Rattle.meaning.specs.Skipping.{held, settled, passed, endsLevel, settledTurn, skipTurn, skipEvent, skipStep}
 use Rattle.meaning.specs.OpenLevels.{storedAfterOf}
 use Rattle.meaning.specs.Calls.{Stored, topOf, storedAfter, storeStep}
 use Rattle.meaning.proofs.laws.Answered.{if-false, refuse-stops, giving-given}
 use Rattle.meaning.proofs.laws.FeedKeeps.{feed-keeps-while}
-use Rattle.meaning.proofs.stores.AnyStore.{levelsIn, IsStore, IsWay, Fits, staysOn, storesOne, endsOne, viewOf}
+use Rattle.meaning.proofs.laws.Letters.{letter-top-free}
+use Rattle.meaning.proofs.stores.AnyStore.{levelsIn, IsStore, IsWay, Fits, staysOn, storesOne, namesOne, endsOne, viewOf}
 use Rattle.meaning.proofs.stores.AnyStore as any
-use Rattle.meaning.proofs.stores.Turns.{Turned, passes, endsHeld, takesLetter, storesOpen, endsLooked, turned}
+use Rattle.meaning.proofs.stores.Turns.{Turned, passes, endsHeld, takesLetter, namesTop, namesLevel, storesOpen, endsLooked, turned}
 
 -- ---- the records below the depth, the innermost first
 
@@ -58,8 +59,10 @@ module _ (R : Rule) (book : List ℕ) (room ceiling : ℕ) (r : Reading) (atTop 
   ends-at-top l = if-false _ _ (held-at-top l) ∙ close-at-top l
 
   full-top-free : (l m : Level) (event : Event) → fullTurn R room ceiling r l event ≡ fullTurn R room ceiling r m event
-  unfolding fullTurn
-  full-top-free l m (letter a) = refl
+  unfolding fullTurn looked
+  full-top-free l m (letter a) =
+      λ i. refuse 9 at r .taken when ceiling ≤? r .looks otherwise
+      look letterTable (r .taken) (letterMove R (r .state) a) (λ q. letter-top-free a l m (looked r q (r .depth)) atTop i)
   full-top-free l m opens = refl
   full-top-free l m closes = close-at-top l ∙ sym (close-at-top m)
 
@@ -93,10 +96,12 @@ module _ (R : Rule) (book : List ℕ) (ceiling : ℕ) where
 
   turn-fits : {room : ℕ} {r : Reading} {top : Level} {v : Event} {turn : Turn} → Turned R book room r top v turn
       → Fits (λ (r : Reading). r .depth) (λ r. Unit) (λ l. Unit) room r turn
-  unfolding looked passed
+  unfolding looked passed topNamed
   turn-fits (passes e skip is h) = staysOn tt refl
   turn-fits (endsHeld is z) = endsOne tt refl
   turn-fits (takesLetter a q isNot known m) = staysOn tt refl
+  turn-fits (namesTop a q isNot known m flat) = staysOn tt refl
+  turn-fits (namesLevel a q isNot known m deep mark) = namesOne tt deep tt refl
   turn-fits (storesOpen q isNot fits m) = storesOne tt fits tt refl
   turn-fits (endsLooked q isNot z deep m) = endsOne tt refl
 
@@ -142,43 +147,61 @@ pub record StoredOpen (s : Stored) (e : ℕ) (t : Stored) : Type 0 where
   pub deeper : t .reading .depth ≡ s .reading .depth + 1
   pub own : t .store ≡ set (s .store) (s .reading .depth) (newLevel (s .reading))
 
+-- a letter that replaces the mark of its level: of the record below the depth it writes the letter alone, and no other record
+pub record FirstLetter (s : Stored) (e : ℕ) (t : Stored) : Type 0 where
+  pub a : ℕ
+  pub isLetter : eventOf e ≡ letter a
+  pub inside : 0 < s .reading .depth
+  pub marked : topOf (s .reading) (s .store) .first ≡ noLetter
+  pub sameDepth : t .reading .depth ≡ s .reading .depth
+  pub own : t .store ≡ set (s .store) (s .reading .depth - 1) (levelNamed a (topOf (s .reading) (s .store)))
+
+-- what an event that is taken does to the store: it leaves it as it was, or it is one of these two
+abbrev pub KeepsStore : Stored → ℕ → Stored → Type 0
+KeepsStore s e t = (t .store ≡ s .store) ⊎ (StoredOpen s e t ⊎ FirstLetter s e t)
+
 module _ (R : Rule) (book : List ℕ) (ceiling : ℕ) where
   turn-kept : (r : Reading) (store : List Level) (e : ℕ) {event : Event} {turn : Turn} → eventOf e ≡ event
       → Turned R book (length store) r (topOf r store) event turn
-      → (storedAfter r store turn .store ≡ store) ⊎ StoredOpen (record { reading = r; store = store }) e (storedAfter r store turn)
+      → KeepsStore (record { reading = r; store = store }) e (storedAfter r store turn)
   unfolding storedAfterOf looked
   turn-kept r store e known (passes event skip is h) = inl refl
   turn-kept r store e known (endsHeld is z) = inl refl
   turn-kept r store e known (takesLetter a q isNot below m) = inl refl
+  turn-kept r store e known (namesTop a q isNot below m flat) = inl refl
+  turn-kept r store e known (namesLevel a q isNot below m deep mark) =
+      inr (inr (record { a = a; isLetter = known; inside = deep; marked = mark; sameDepth = refl; own = refl }))
   turn-kept r store e known (storesOpen q isNot fits m) =
-      inr (record { opening = known; fits = fits; deeper = refl; own = refl })
+      inr (inl (record { opening = known; fits = fits; deeper = refl; own = refl }))
   turn-kept r store e known (endsLooked q isNot z deep m) = inl refl
 
-  -- an event that is taken leaves the store as it was, or it is an open that is stored
-  pub store-kept : (s t : Stored) (e : ℕ) → storeStep R book ceiling s e ≡ given t
-      → (t .store ≡ s .store) ⊎ StoredOpen s e t
+  -- an event that is taken leaves the store as it was, or it is an open that is stored, or a letter that replaces a mark
+  pub store-kept : (s t : Stored) (e : ℕ) → storeStep R book ceiling s e ≡ given t → KeepsStore s e t
   store-kept s t e h =
       let g = step-turned R book ceiling s t e h in
       let after = turn-kept (s .reading) (s .store) e refl (g .1) in
       rw (g .2) at after
 
-  -- no record but the one at the depth changes
+  -- no record but the one at the depth and the innermost one changes
   pub record-kept : (s t : Stored) (e i : ℕ) (d : Level) → storeStep R book ceiling s e ≡ given t → i ≢ s .reading .depth
-      → getD (t .store) i d ≡ getD (s .store) i d
-  record-kept s t e i d h other = go (store-kept s t e h)
+      → i ≢ s .reading .depth - 1 → getD (t .store) i d ≡ getD (s .store) i d
+  record-kept s t e i d h other another = go (store-kept s t e h)
     where
-      go : (t .store ≡ s .store) ⊎ StoredOpen s e t → getD (t .store) i d ≡ getD (s .store) i d
+      go : KeepsStore s e t → getD (t .store) i d ≡ getD (s .store) i d
       go (inl same) = rw same
-      go (inr o) = rw (o .own) (getD-set-other (s .store) (s .reading .depth) i (newLevel (s .reading)) d other)
+      go (inr (inl o)) = rw (o .own) (getD-set-other (s .store) (s .reading .depth) i (newLevel (s .reading)) d other)
+      go (inr (inr f)) = rw (f .own) (getD-set-other (s .store) (s .reading .depth - 1) i _ d another)
 
   step-past : (i : ℕ) (s t : Stored) (e : ℕ) → t .reading .depth ≤ i → storeStep R book ceiling s e ≡ given t
       → drop i (t .store) ≡ drop i (s .store)
   step-past i s t e h taken = go (store-kept s t e taken)
     where
-      go : (t .store ≡ s .store) ⊎ StoredOpen s e t → drop i (t .store) ≡ drop i (s .store)
+      go : KeepsStore s e t → drop i (t .store) ≡ drop i (s .store)
       go (inl same) = rw same
-      go (inr o) =
+      go (inr (inl o)) =
           rw (o .own) (drop-set-lt i (s .store) (s .reading .depth) (newLevel (s .reading)) (omega (arith, o .deeper)))
+      go (inr (inr f)) =
+          rw (f .own) (drop-set-lt i (s .store) (s .reading .depth - 1) _ (omega (arith, f .inside, f .sameDepth)))
 
   -- the records at the greatest depth reached, and past it, are as they were
   pub store-past : (i : ℕ) (s : Stored) (es : List ℕ)

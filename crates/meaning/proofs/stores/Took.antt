@@ -11,14 +11,14 @@ use Rattle.meaning.specs.declared.Reading.{Reading}
 use Rattle.meaning.specs.declared.Level.{Level}
 use Rattle.meaning.specs.Answers.{Answer, given, refused, refuse_at_when_otherwise_, _giving_, if_then_else_}
 use Rattle.meaning.specs.RuleFile.{Rule, Move, noMove, to}
-use Rattle.meaning.specs.FullReading.{Event, opens, closes, letter, eventOf, looked, Table, look, Turn, fullTurn, knownEvent, Went, goOn, feedBy}
-use Rattle.meaning.specs.Skipping.{passed, endsLevel, settledTurn, skipTurn, skipEvent}
 use Rattle.meaning.specs.OpenLevels.{storedAfterOf}
+use Rattle.meaning.specs.FullReading.{Event, opens, closes, letter, eventOf, looked, Table, look, Turn, fullTurn, knownEvent, Went, goOn, feedBy, topNamed}
+use Rattle.meaning.specs.Skipping.{passed, endsLevel, settledTurn, skipTurn, skipEvent}
 use Rattle.meaning.specs.Calls.{eventsTaken, StoppedAt, TookFirst, Stored, storedAfter, storeStep, readingCheck, feedCall}
 use Rattle.meaning.proofs.laws.FeedLaws.{feed-taken}
 use Rattle.meaning.proofs.stores.ReadingCheck.{feed-checked, feed-unchecked}
 use Rattle.meaning.proofs.stores.StoreView.{step-turned}
-use Rattle.meaning.proofs.stores.Turns.{Turned, passes, endsHeld, takesLetter, storesOpen, endsLooked}
+use Rattle.meaning.proofs.stores.Turns.{Turned, passes, endsHeld, takesLetter, namesTop, namesLevel, storesOpen, endsLooked}
 
 -- ---- any step that counts
 
@@ -82,10 +82,12 @@ module _ {A : Type 0} (step : A → ℕ → Answer A) (count : A → ℕ) where
 
 turn-taken : {R : Rule} {book : List ℕ} {room : ℕ} {r : Reading} {top : Level} {event : Event} {turn : Turn} (store : List Level)
     → Turned R book room r top event turn → storedAfter r store turn .reading .taken ≡ r .taken + 1
-unfolding storedAfterOf looked passed
+unfolding storedAfterOf looked passed topNamed
 turn-taken store (passes event skip is h) = refl
 turn-taken store (endsHeld is z) = refl
 turn-taken store (takesLetter a q isNot known m) = refl
+turn-taken store (namesTop a q isNot known m flat) = refl
+turn-taken store (namesLevel a q isNot known m deep mark) = refl
 turn-taken store (storesOpen q isNot fits m) = refl
 turn-taken store (endsLooked q isNot z deep m) = refl
 

@@ -10,9 +10,10 @@ use Rattle.meaning.specs.declared.Reading.{Reading}
 use Rattle.meaning.specs.declared.Level.{Level}
 use Rattle.meaning.specs.Answers.{Answer, given, refused, refuse_at_when_otherwise_, _<?_, _≤?_, _=?_, if_then_else_}
 use Rattle.meaning.specs.RuleFile.{Rule, Move, noMove, to, letterMove, treeMove, treeStartMove}
-use Rattle.meaning.specs.FullReading.{Event, opens, closes, letter, eventOf, looked, newLevel, Table, look, Turn, stays, stores, ends, fullTurn, knownEvent, mostEvents}
+use Rattle.meaning.specs.FullReading.{Event, opens, closes, letter, eventOf, looked, newLevel, noLetter, topNamed, levelNamed, Table, look, Turn, stays, stores, names, ends, fullTurn, knownEvent, mostEvents}
 use Rattle.meaning.specs.SkipBook.{inStill}
 use Rattle.meaning.specs.Skipping.{held, settled, passed, endsLevel, settledTurn, skipTurn, skipEvent}
+use Rattle.meaning.proofs.laws.Letters.{letter-cases}
 use Rattle.meaning.proofs.laws.Answered.{or-false}
 use Rattle.meaning.proofs.laws.Bools.{true-is-not-false}
 use Rattle.meaning.proofs.laws.Events.{known-letter}
@@ -57,9 +58,15 @@ pub data Turned (R : Rule) (book : List ℕ) (room : ℕ) (r : Reading) (top : L
   -- a held level ends without a look
   endsHeld : held book r top ≡ true → r .skip ≡ 0
       → Turned R book room r top closes (ends (passed r (top .above) (r .depth - 1) (r .skip)))
-  -- a look in the letter moves
+  -- a look in the letter moves, on a level that has its first letter
   takesLetter : (a q : ℕ) → settled book r top ≡ false → a < R .letters → letterMove R (r .state) a ≡ to q
       → Turned R book room r top (letter a) (stays (looked r q (r .depth)))
+  -- the same at the top, where only the mark is replaced
+  namesTop : (a q : ℕ) → settled book r top ≡ false → a < R .letters → letterMove R (r .state) a ≡ to q → r .depth ≡ 0
+      → Turned R book room r top (letter a) (stays (topNamed a (looked r q (r .depth))))
+  -- the same on a level that had the mark, whose record is written anew
+  namesLevel : (a q : ℕ) → settled book r top ≡ false → a < R .letters → letterMove R (r .state) a ≡ to q → 0 < r .depth
+      → top .first ≡ noLetter → Turned R book room r top (letter a) (names (levelNamed a top) (looked r q (r .depth)))
   -- a look at the tree start, with a record stored
   storesOpen : (q : ℕ) → settled book r top ≡ false → r .depth < room → treeStartMove R ≡ to q
       → Turned R book room r top opens (stores (newLevel r) (looked r q (r .depth + 1)))
@@ -79,10 +86,14 @@ module _ (R : Rule) (book : List ℕ) (room ceiling : ℕ) (r : Reading) (top : 
 
   full-turned : (event : Event) → ((a : ℕ) → event ≡ letter a → a < R .letters) → settled book r top ≡ false
       → Gives (Turned R book room r top event) (fullTurn R room ceiling r top event)
-  unfolding fullTurn settled
+  unfolding fullTurn settled looked
   full-turned (letter a) known isNot =
       gives-refuse 9 (r .taken) (ceiling ≤? r .looks) _ (λ below.
-      gives-look _ _ _ _ (λ q m. takesLetter a q isNot (known a refl) m))
+      gives-look _ _ _ _ (λ q m.
+      letter-cases (Turned R book room r top (letter a)) a top (looked r q (r .depth))
+      (λ flat. namesTop a q isNot (known a refl) m flat)
+      (λ deep mark. namesLevel a q isNot (known a refl) m deep mark)
+      (λ deep lettered. takesLetter a q isNot (known a refl) m)))
   full-turned opens known isNot =
       gives-refuse 8 (r .taken) (room ≤? r .depth) _ (λ fits.
       gives-refuse 9 (r .taken) (ceiling ≤? r .looks) _ (λ below.

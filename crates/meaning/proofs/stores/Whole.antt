@@ -11,14 +11,14 @@ use Rattle.meaning.specs.Answers.{given, refused}
 use Rattle.meaning.specs.RuleFile.{ruleOf}
 use Rattle.meaning.specs.FullReading.{Went, feedBy}
 use Rattle.meaning.specs.SkipBook.{bookAfter}
-use Rattle.meaning.specs.Calls.{Stored, openCall, openedBook, storeStep, topOf, endOf, feedCall, finishCall, finishFed, largestCeiling, readWith, wholeFrom, wholeDocument}
+use Rattle.meaning.specs.Calls.{Stored, openCall, openedBook, storeStep, topOf, endOf, feedCall, finishCall, finishFed, defaultCeiling, readWith, wholeFrom, wholeDocument}
 use Rattle.meaning.proofs.laws.Answered.{giving-passes, giving-stops}
 use Rattle.meaning.proofs.stores.ReadingCheck.{feed-checked, finish-checked, fed-checked}
 use Rattle.meaning.proofs.stores.Opens.{opened-long, opened-checked}
 
 -- what feeding a first reading with the book that opening wrote comes to
 abbrev pub fedFirst : List ℕ → List ℕ → Reading → List Level → List ℕ → Went Stored
-fedFirst file book first store events = feedCall file (openedBook file book) largestCeiling first store events
+fedFirst file book first store events = feedCall file (openedBook file book) defaultCeiling first store events
 
 -- ---- the calls in turn
 
@@ -59,9 +59,9 @@ module _ (file book : List ℕ) (store : List Level) (events : List ℕ) {o : Op
 
   -- feeding goes by the steps
   pub whole-feeds : fedFirst file book (o .reading) store events
-      ≡ feedBy (storeStep (ruleOf file) (openedBook file book) largestCeiling) (record { reading = o .reading; store = store }) events
+      ≡ feedBy (storeStep (ruleOf file) (openedBook file book) defaultCeiling) (record { reading = o .reading; store = store }) events
   whole-feeds =
-      feed-checked file (openedBook file book) (o .reading) store largestCeiling events
+      feed-checked file (openedBook file book) (o .reading) store defaultCeiling events
       (opened-checked file book (openedBook file book) store opened (opened-long file book opened))
 
   -- and finish answers by the end of the reading
@@ -72,5 +72,5 @@ module _ (file book : List ℕ) (store : List Level) (events : List ℕ) {o : Op
   whole-finishes =
       finish-checked file (openedBook file book) _ _
       (rw whole-feeds
-      (fed-checked file (openedBook file book) largestCeiling (record { reading = o .reading; store = store }) events
+      (fed-checked file (openedBook file book) defaultCeiling (record { reading = o .reading; store = store }) events
       (opened-checked file book (openedBook file book) store opened (opened-long file book opened))))

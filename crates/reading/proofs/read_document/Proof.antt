@@ -20,7 +20,7 @@ use contract.Monad.{Fun}
 use contract.Running.{givenOf, tables, tablesOf}
 use types.Kit.{Given, Item, ‵, ⋆, _$_, _∵_, !, qed, by, suffices}
 use types.Part.{whole, sub, look-in}
-use types.Run.{look, neg-lit, no-more, and-then, of-opd, stop, fld, from, load, returns}
+use types.Run.{look, no-more, and-then, of-opd, stop, fld, from, load, returns}
 use denote.RattleType.{RattleType}
 use denote.Laws.{Is, all-typed, valss}
 use denote.Builtin.{u8, u16, u64}
@@ -35,7 +35,7 @@ use Rattle.meaning.specs.declared.Level.{Level}
 use Rattle.meaning.specs.FullReading.{blank}
 use Rattle.levels.proofs.Values.{FitsIn, storable}
 use Rattle.levels.proofs.Locals.{placed, freed}
-use Rattle.levels.proofs.Lines.{var, count, pointer, bundle, lets, lands-in, begins}
+use Rattle.levels.proofs.Lines.{big, var, count, pointer, bundle, lets, lands-in, begins}
 use Rattle.levels.proofs.Listed.{Parameter, of-shared, of-unique, kinds, stays, rows, spells, tellss, lawfuls, all-go}
 use Rattle.levels.proofs.Parameters.{holds, leaves}
 use Rattle.levels.proofs.Meets.{proved}
@@ -43,7 +43,7 @@ use Rattle.levels.proofs.Element.{record-type, makes, level-value}
 use Rattle.levels.proofs.InPlace.{calls-by}
 use Rattle.levels.proofs.Loans.{Kept, Shown, relent, reshown, shown}
 use Rattle.levels.proofs.Store.{looks}
-use Rattle.meaning.specs.Calls.{openedBook, topOf, wholeDocument, largestCeiling}
+use Rattle.meaning.specs.Calls.{openedBook, topOf, wholeDocument, defaultCeiling}
 use Rattle.meaning.specs.RuleFile.{ruleOf}
 use Rattle.meaning.specs.declared.End.{End}
 use Rattle.turning.specs.Advancing.{rest}
@@ -141,7 +141,7 @@ module _ {M : Type 1} (𝓤 : URA M) (H : Heap 𝓤) (A : Atoms 𝓤) (W : Given
     going-fits b fits = LL.owed Be.the-type Be′.the-laws b (begun-value .val b ∷ []) fits .1 .0
 
     abbrev left : Begun → List Level
-    left b = rest (ruleOf file) (openedBook file book) largestCeiling levels events (b .going) .last .store
+    left b = rest (ruleOf file) (openedBook file book) defaultCeiling levels events (b .going) .last .store
 
     walk : ent 𝓤 (onEntry 𝓤 H A read-document.signature κs qs a at) (WpFn 𝓤 H (𝓣 .C) (𝓣 .Λ) code.function (sliceVal (a .0 .ptr) (length file) ∷ sliceVal (a .1 .0 .ptr) (length book) ∷ sliceVal (a .1 .1 .0 .ptr) (length levels) ∷ sliceVal (a .1 .1 .1 .0 .ptr) (length events) ∷ []) Post)
     unfolding topOf
@@ -154,8 +154,8 @@ module _ {M : Type 1} (𝓤 : URA M) (H : Heap 𝓤) (A : Atoms 𝓤) (W : Given
         lets ! (of-opd ! (count ! refl refl refl)) refl (tt, record { fits = p3 .0 .1 .0 }) $
         calls-by ! 𝓣 (19 ∷ 20 ∷ []) refl (begin-by W at-mem run 𝓣 file book (length events) begin-known (shown W (κs .0) (qs .0) (a .0 .name)) (relent W (κs .1 .0) (qs .1 .0) (a .1 .0 .name)) (p3 .0 .1 .0)) (and-then ! (var ! refl) (and-then ! (var ! refl) (and-then ! (var ! refl) (no-more !)))) (λ begun. lands-in ! refl (storable begun-value W (begun .answer) (begun .fits)) $
         lets ! (pointer ! refl refl refl) refl (tt, tt) $ lets ! (bundle ! (var ! refl) (count ! refl refl refl)) refl (tt, (tt, (record { fits = p1 .0 .1 .0 }, tt))) $ lets ! (pointer ! refl refl refl) refl (tt, tt) $ lets ! (bundle ! (var ! refl) (count ! refl refl refl)) refl (tt, (tt, (record { fits = p2 .0 .1 .0 }, tt))) $
-        calls-by ! 𝓣 (19 ∷ 20 ∷ 21 ∷ 22 ∷ []) refl (feed-loop-by W at-mem run 𝓣 file (begun .answer .rule) (openedBook file book) largestCeiling (begun .answer .going) levels events feed-loop-known (shown W (κs .0) (qs .0) (a .0 .name)) (reshown W (κs .1 .0) (qs .1 .0) (a .1 .0 .name)) (relent W (κs .1 .1 .0) (qs .1 .1 .0) (a .1 .1 .0 .name)) (shown W (κs .1 .1 .1 .0) (qs .1 .1 .1 .0) (a .1 .1 .1 .0 .name))
-        (rule-fits (begun .answer) (begun .fits)) (lit< tt) (going-fits (begun .answer) (begun .fits)) (document-goes file book levels events (begun .answer) (begun .says))) (and-then ! (var ! refl) (and-then ! (load ! (from ! (fld ! refl (stop !))) (look-in ! 5 (sub ! 0 refl (whole !)))) (and-then ! (var ! refl) (and-then ! (neg-lit ! tt) (and-then ! (load ! (from ! (fld ! refl (stop !))) (look-in ! 5 (sub ! 1 refl (whole !)))) (and-then ! (var ! refl) (and-then ! (var ! refl) (no-more !)))))))) (λ last. lands-in ! refl (storable going-value W (last .answer) (last .fits)) $
+        calls-by ! 𝓣 (19 ∷ 20 ∷ 21 ∷ 22 ∷ []) refl (feed-loop-by W at-mem run 𝓣 file (begun .answer .rule) (openedBook file book) defaultCeiling (begun .answer .going) levels events feed-loop-known (shown W (κs .0) (qs .0) (a .0 .name)) (reshown W (κs .1 .0) (qs .1 .0) (a .1 .0 .name)) (relent W (κs .1 .1 .0) (qs .1 .1 .0) (a .1 .1 .0 .name)) (shown W (κs .1 .1 .1 .0) (qs .1 .1 .1 .0) (a .1 .1 .1 .0 .name))
+        (rule-fits (begun .answer) (begun .fits)) (lit< tt) (going-fits (begun .answer) (begun .fits)) (document-goes file book levels events (begun .answer) (begun .says))) (and-then ! (var ! refl) (and-then ! (load ! (from ! (fld ! refl (stop !))) (look-in ! 5 (sub ! 0 refl (whole !)))) (and-then ! (var ! refl) (and-then ! (big ! (lit< tt)) (and-then ! (load ! (from ! (fld ! refl (stop !))) (look-in ! 5 (sub ! 1 refl (whole !)))) (and-then ! (var ! refl) (and-then ! (var ! refl) (no-more !)))))))) (λ last. lands-in ! refl (storable going-value W (last .answer) (last .fits)) $
         calls-by ! 𝓣 [] refl (top-by W at-mem run 𝓣 top-place-known (last .answer .reading) (reading-fits (last .answer) (last .fits))) (and-then ! (load ! (from ! (fld ! refl (stop !))) (look-in ! 6 (sub ! 0 refl (whole !)))) (no-more !)) (λ place. lands-in ! refl (tt, record { fits = place .1 }) $
         lets ! (pointer ! refl refl refl) refl (tt, tt) $ lets ! (bundle ! (var ! refl) (count ! refl refl refl)) refl (tt, (tt, (record { fits = p2 .0 .1 .0 }, tt))) $
         calls-by ! 𝓣 (21 ∷ []) refl (looks W at-mem run 𝓣 (left (begun .answer)) (place .1) level-at-known (reshown W (κs .1 .1 .0) (qs .1 .1 .0) (a .1 .1 .0 .name))) (and-then ! (var ! refl) (and-then ! (var ! refl) (no-more !))) (λ fits. lands-in ! refl (storable level-value W (getD (left (begun .answer)) (last .answer .reading .depth - 1) blank) fits) $

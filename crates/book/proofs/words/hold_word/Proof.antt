@@ -1,72 +1,43 @@
--- `book::words::hold_word` meets its contract. The loop's invariant: the word stands for those of the states so far whose reach
--- has no state of the change. Assumes nothing.
+-- `book::words::hold_word` meets its contract: the states never met.
+-- Assumes nothing.
 use borrow.Author.Needs.{needs}
-use mathlib.Core.Path.{_≡_, refl}
-use Prim.Native.Nat.{_≤_, _-_}
+use mathlib.Core.Path.{sym, ap, _∙_}
+use Prim.Native.Nat.{ℕ, _-_, _^_}
 use native.Mathlib.Omega.{arith}
-use lib.Bits.{bitAnd}
-use lib.ListN.{getD}
-use Rattle.meaning.specs.Answers.{_=?_}
-use Rattle.book.specs.Sets.{StandsFor, firstOf}
-use Rattle.book.proofs.Standing.{gather-first}
+use lib.Bits.{bitXor}
+use denote.Ref.{now}
+use Rattle.meaning.specs.RuleFile.{IsRule, ruleOf}
+use Rattle.meaning.proofs.rulefile.Accepted.{accepted-is-rule}
+use Rattle.book.proofs.Walked.{few-states, has-states, states-are}
+use Rattle.book.proofs.BookWords.{change-states, hold-is-word}
 use Rattle.book.proofs.words.hold_word.Statement.{statement}
 use Rattle.book.proofs.words.hold_word.Tie as tie
 
-abbrev Inv-loop : tie.InvT-loop
-Inv-loop reach states change set₀ state₀ set state =
-    (state ≤ states) × StandsFor set (firstOf state (λ p. bitAnd (getD reach p 0) change =? 0))
+the-rule : (c : tie.Start) → IsRule (ruleOf (now (c .args .file)))
+the-rule c = accepted-is-rule _ (c .pre .0 .accepted)
 
-abbrev μ-loop : tie.MeasureT-loop
-μ-loop reach states change set₀ state₀ set state = states - state
+changes-requires : tie.Need-changes-requires
+changes-requires c κs = search needs
 
-loop-holds : tie.Need-loop-holds Inv-loop μ-loop
-loop-holds c = (omega arith, gather-first _)
+leading-to-requires : tie.Need-leading-to-requires
+leading-to-requires c κs =
+    let start = c .before .before in
+    let ok = start .pre .0 in
+    (ok, (start .pre .1 .0, rw (states-are ok) at (change-states _ (the-rule start) _ (start .pre .1 .0) (start .args .upper) (c .changes .result) (c .changes .ok) (c .changes .ensures))))
 
-only-requires : tie.Need-only-requires Inv-loop μ-loop
-only-requires c κs = omega arith
+first-states-requires : tie.Need-first-states-requires
+first-states-requires c κs = let ok = c .before .before .before .pre .0 in (has-states ok, few-states ok)
 
-cast-with : tie.Need-cast-with Inv-loop μ-loop
-cast-with c = omega arith
-
-mul-with : tie.Need-mul-with Inv-loop μ-loop
-mul-with c = omega arith
-
-element-copy-out-with : tie.Need-element-copy-out-with Inv-loop μ-loop
-element-copy-out-with c = omega arith
-
-with-requires : tie.Need-with-requires Inv-loop μ-loop
-with-requires c κs = search needs
-
-add-state : tie.Need-add-state Inv-loop μ-loop
-add-state c = omega arith
-
-loop-less : tie.Need-loop-less Inv-loop μ-loop
-loop-less c = omega arith
-
-loop-again : tie.Need-loop-again Inv-loop μ-loop
-loop-again c =
-    let loop = c .before .before .before .before .loop in
-    (omega arith, c .with .ensures _ (loop .state) (c .before .before .only .ensures) refl (loop .inv .1))
-
-returns : tie.Need-returns Inv-loop μ-loop
+returns : tie.Need-returns
 returns c =
-    let loop = c .before .loop in
-    let last : loop .state ≡ c .before .before .args .states = omega arith in
-    rw last at (loop .inv .1)
+    let start = c .before .before .before .before in
+    let ok = start .pre .0 in
+    let met = c .before .leading-to in
+    let change = c .before .before .changes in
+    ap (λ (w : ℕ). bitXor w (met .result)) (c .first-states .ensures ∙ ap (λ (n : ℕ). 2 ^ n - 1) (sym (states-are ok)))
+    ∙ hold-is-word _ (the-rule start) _ (start .pre .1 .0) (start .args .upper) (change .result) (change .ok) (change .ensures) (met .result)
+    (rw (sym (states-are ok)) at (met .ensures .0)) (λ p low. met .ensures .1 p (omega (arith, low, states-are ok)))
 
 pub hold-word-spec : {M : Type 1} → statement M
 hold-word-spec =
-    tie.close
-    (tie.spec
-    Inv-loop
-    μ-loop
-    loop-holds
-    only-requires
-    cast-with
-    mul-with
-    element-copy-out-with
-    with-requires
-    add-state
-    loop-less
-    loop-again
-    returns)
+    tie.close (tie.spec changes-requires leading-to-requires first-states-requires returns)

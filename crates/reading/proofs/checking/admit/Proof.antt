@@ -1,7 +1,7 @@
 -- `reading::checking::admit` meets its contract. The code is walked by hand: what is seen of the level store, and then the answer.
 -- Assumes nothing.
 use mathlib.Core.Path.{_≡_, refl, ap}
-use Prim.Native.Nat.{ℕ, _-_, _<_, _≤_, _^_}
+use Prim.Native.Nat.{ℕ, _-_, _≤_}
 use mathlib.Core.List.{List, [], _∷_}
 use mathlib.Core.Option.{some}
 use lib.ListN.{length, getD}
@@ -17,13 +17,11 @@ use contract.Lifetimes.{Lfts, Shares}
 use contract.Monad.{Fun}
 use contract.Running.{givenOf, tables, tablesOf}
 use types.Kit.{Given, Item, ‵, ⋆, _$_, _∵_, !, qed, by, suffices}
-use types.Part.{whole, sub, look-in}
-use types.Run.{look, no-more, and-then, stop, fld, from, load, returns}
+use types.Run.{look, no-more, and-then, returns}
 use denote.RattleType.{RattleType}
 use denote.Laws.{Is, all-typed, valss}
 use denote.Builtin.{u8, u64}
 use denote.Slice.{sliceVal, ShrSlice, slice-vals}
-use denote.Struct.Laws as LL
 use denote.Triple.Entry.{Args, Vals, onEntry}
 use denote.Triple.Spec.{Meets, tripleOf}
 use denote.Triple.Table.{cited}
@@ -44,9 +42,8 @@ use Rattle.levels.proofs.Store.{looks, counts}
 use Rattle.meaning.specs.Calls.{topOf}
 use Rattle.rule.specs.Says.{checkedSays}
 use Rattle.rule.specs.declared.Checked.{Checked}
-use Rattle.rule.proofs.Rule as Ru
-use Rattle.rule.proofs.Rule.Laws as Ru′
-use Rattle.reading.specs.Checks.{abovesIn, ruleIn, Seen, readingAnswer}
+use Rattle.rule.specs.declared.Rule.{Rule}
+use Rattle.reading.specs.Checks.{recordsIn, ruleIn, Seen, readingAnswer}
 use Rattle.reading.proofs.Passed.{reading-value, rule-value, checked-value, rule-check-by, rule-in-by, depth-within-by, stored-in-by, top-by, reading-answer-by}
 use Rattle.rule.proofs.Rule.of_file as of-file
 use Rattle.rule.proofs.Rule.of_file.Symbol as of-file-def
@@ -130,12 +127,9 @@ module _ {M : Type 1} (𝓤 : URA M) (H : Heap 𝓤) (A : Atoms 𝓤) (W : Given
 
   module _ (of-file-known : Meets 𝓤 H A of-file.signature (𝓣 .C #of-file) (of-file.spec 𝓤 H A at-mem run)) (rule-in-known : Meets 𝓤 H A rule-in.signature (𝓣 .C #rule-in) (rule-in.spec 𝓤 H A at-mem run)) (room-known : Meets 𝓤 H A room.signature (𝓣 .C #room) (room.spec 𝓤 H A at-mem run)) (depth-within-known : Meets 𝓤 H A depth-within.signature (𝓣 .C #depth-within) (depth-within.spec 𝓤 H A at-mem run)) (stored-in-known : Meets 𝓤 H A stored-in.signature (𝓣 .C #stored-in) (stored-in.spec 𝓤 H A at-mem run)) (top-place-known : Meets 𝓤 H A top-place.signature (𝓣 .C #top-place) (top-place.spec 𝓤 H A at-mem run)) (level-at-known : Meets 𝓤 H A level-at.signature (𝓣 .C #level-at) (level-at.spec 𝓤 H A at-mem run)) (reading-answer-known : Meets 𝓤 H A reading-answer.signature (𝓣 .C #reading-answer) (reading-answer.spec 𝓤 H A at-mem run))
       (p0 : Is (ShrSlice (named 0) (κs .0) u8) (a .0) (slice-vals (a .0))) (p1 : Is (ShrSlice (named 1) (κs .1 .0) u64) (a .1 .0) (slice-vals (a .1 .0))) (p2 : FitsIn reading-value r) (p3 : Is (ShrSlice (named 2) (κs .1 .1 .0) record-type) (a .1 .1 .1 .0) (slice-vals (a .1 .1 .1 .0))) where
-    states-fit : (x : Checked) → FitsIn rule-value (ruleIn x) → ruleIn x .states < 2 ^ 8
-    states-fit x fits = LL.owed Ru.the-type Ru′.the-laws (ruleIn x) (rule-value .val (ruleIn x) ∷ []) fits .0 .1
-
-    seen : (n d : ℕ) → (r .depth ≤ length levels → d ≡ r .depth) → Seen n r levels (length levels) (abovesIn n d levels) (getD levels (r .depth - 1) blank)
+    seen : (rule : Rule) (d : ℕ) → (r .depth ≤ length levels → d ≡ r .depth) → Seen rule r levels (length levels) (recordsIn rule d levels) (getD levels (r .depth - 1) blank)
     unfolding topOf
-    seen n d within = record { roomIs = refl; insideIs = λ h. ap (λ (e : ℕ). abovesIn n e levels) (within h); topIs = refl }
+    seen rule d within = record { roomIs = refl; insideIs = λ h. ap (λ (e : ℕ). recordsIn rule e levels) (within h); topIs = refl }
 
     walk : ent 𝓤 (onEntry 𝓤 H A admit.signature κs qs a at) (WpFn 𝓤 H (𝓣 .C) (𝓣 .Λ) code.function (sliceVal (a .0 .ptr) (length file) ∷ sliceVal (a .1 .0 .ptr) (length book) ∷ reading-value .val r ∷ sliceVal (a .1 .1 .1 .0 .ptr) (length levels) ∷ []) Post)
     walk =
@@ -147,13 +141,13 @@ module _ {M : Type 1} (𝓤 : URA M) (H : Heap 𝓤) (A : Atoms 𝓤) (W : Given
         calls-by ! 𝓣 [] refl (rule-in-by W at-mem run 𝓣 rule-in-known (checked .answer) (checked .fits)) (and-then ! (var ! refl) (no-more !)) (λ rule. lands-in ! refl (storable rule-value W (ruleIn (checked .answer)) rule) $
         calls-by ! 𝓣 (15 ∷ []) refl (counts W at-mem run 𝓣 levels room-known (shown W (κs .1 .1 .0) (qs .1 .1 .0) (a .1 .1 .1 .0 .name))) (and-then ! (var ! refl) (no-more !)) (λ count. lands-in ! refl (tt, record { fits = count .1 }) $
         calls-by ! 𝓣 [] refl (depth-within-by W at-mem run 𝓣 depth-within-known r p2 (count .1)) (and-then ! (var ! refl) (and-then ! (var ! refl) (no-more !))) (λ depth. lands-in ! refl (tt, record { fits = depth .fits .1 }) $
-        calls-by ! 𝓣 (15 ∷ []) refl (stored-in-by W at-mem run 𝓣 stored-in-known levels (shown W (κs .1 .1 .0) (qs .1 .1 .0) (a .1 .1 .1 .0 .name)) (depth .fits .1) (states-fit (checked .answer) rule)) (and-then ! (var ! refl) (and-then ! (var ! refl) (and-then ! (load ! (from ! (fld ! refl (stop !))) (look-in ! 6 (sub ! 0 refl (whole !)))) (no-more !)))) (λ _. lands-in ! refl (tt, tt) $
+        calls-by ! 𝓣 (15 ∷ []) refl (stored-in-by W at-mem run 𝓣 stored-in-known levels (shown W (κs .1 .1 .0) (qs .1 .1 .0) (a .1 .1 .1 .0 .name)) (depth .fits .1) (ruleIn (checked .answer)) rule) (and-then ! (var ! refl) (and-then ! (var ! refl) (and-then ! (var ! refl) (no-more !)))) (λ _. lands-in ! refl (tt, tt) $
         calls-by ! 𝓣 [] refl (top-by W at-mem run 𝓣 top-place-known r p2) (and-then ! (var ! refl) (no-more !)) (λ place. lands-in ! refl (tt, record { fits = place .1 }) $
         calls-by ! 𝓣 (15 ∷ []) refl (looks W at-mem run 𝓣 levels (place .1) level-at-known (shown W (κs .1 .1 .0) (qs .1 .1 .0) (a .1 .1 .1 .0 .name))) (and-then ! (var ! refl) (and-then ! (var ! refl) (no-more !))) (λ top. lands-in ! refl (storable level-value W (getD levels (r .depth - 1) blank) top) $
-        calls-by ! 𝓣 (14 ∷ []) refl (reading-answer-by W at-mem run 𝓣 (checked .answer) book r (length levels) (abovesIn (ruleIn (checked .answer) .states) (depth .answer) levels) (getD levels (r .depth - 1) blank) reading-answer-known (shown W (κs .1 .0) (qs .1 .0) (a .1 .0 .name))
-        (checked .fits) p2 (count .1) top (file, checked .says) (levels, seen (ruleIn (checked .answer) .states) (depth .answer) (depth .says)))
+        calls-by ! 𝓣 (14 ∷ []) refl (reading-answer-by W at-mem run 𝓣 (checked .answer) book r (length levels) (recordsIn (ruleIn (checked .answer)) (depth .answer) levels) (getD levels (r .depth - 1) blank) reading-answer-known (shown W (κs .1 .0) (qs .1 .0) (a .1 .0 .name))
+        (checked .fits) p2 (count .1) top (file, checked .says) (levels, seen (ruleIn (checked .answer)) (depth .answer) (depth .says)))
         (and-then ! (var ! refl) (and-then ! (var ! refl) (and-then ! (var ! refl) (and-then ! (var ! refl) (and-then ! (var ! refl) (and-then ! (var ! refl) (no-more !))))))) (λ x. lands-in ! refl (storable checked-value W (x .answer) (x .fits)) $
-        returns ! (look ! 0 refl) $ freed W (placed 𝓤 H (code.function .locals) bs) (some _ ∷ some _ ∷ some _ ∷ some _ ∷ some _ ∷ some _ ∷ some _ ∷ some _ ∷ some _ ∷ some _ ∷ some _ ∷ some _ ∷ []) $ by ! (exits (x .answer) (x .says file levels (checked .says) (seen (ruleIn (checked .answer) .states) (depth .answer) (depth .says))) (x .fits))))))))))))
+        returns ! (look ! 0 refl) $ freed W (placed 𝓤 H (code.function .locals) bs) (some _ ∷ some _ ∷ some _ ∷ some _ ∷ some _ ∷ some _ ∷ some _ ∷ some _ ∷ some _ ∷ some _ ∷ some _ ∷ some _ ∷ []) $ by ! (exits (x .answer) (x .says file levels (checked .says) (seen (ruleIn (checked .answer)) (depth .answer) (depth .says))) (x .fits))))))))))))
 
 pub admit-spec : {M : Type 1} → stated.statement M
 unfolding code.routine tablesOf

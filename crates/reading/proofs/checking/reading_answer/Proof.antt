@@ -11,7 +11,7 @@ use Rattle.rule.specs.Says.{checkedSays, checkAnswer, RuleOf}
 use Rattle.rule.proofs.Said.{refused-check}
 use Rattle.reading.specs.Checks.{ruleIn, Seen}
 use Rattle.reading.proofs.Checks.{ruled-by, answer-rule, answer-short, answer-unread, answer-fine}
-use Rattle.turning.proofs.Turned.{states-are, few-states}
+use Rattle.turning.proofs.Turned.{few-states}
 use Rattle.reading.proofs.checking.reading_answer.Statement.{statement}
 use Rattle.reading.proofs.checking.reading_answer.Tie as tie
 
@@ -20,8 +20,8 @@ ruled : (c : tie.After-checked2) (file : List ℕ) → checkedSays (c .before .b
 ruled c file e = ruled-by file (c .checked2 .given .0 .0) (rw (c .checked2 .given .1) at e)
 
 -- and what was seen of the store was seen with its states
-seen-so : (c : tie.After-checked2) (store : List Level) → let a = c .before .before .before .args in Seen (ruleIn (a .checked) .states) (a .reading) store (a .room) (a .inside) (a .top)
-    → Seen (c .checked2 .given .0 .0 .states) (a .reading) store (a .room) (a .inside) (a .top)
+seen-so : (c : tie.After-checked2) (store : List Level) → let a = c .before .before .before .args in Seen (ruleIn (a .checked)) (a .reading) store (a .room) (a .inside) (a .top)
+    → Seen (c .checked2 .given .0 .0) (a .reading) store (a .room) (a .inside) (a .top)
 unfolding ruleIn
 seen-so c store seen = rw (c .checked2 .given .1, ruleIn) at seen
 
@@ -51,7 +51,7 @@ returns-2 : tie.Need-returns-2
 unfolding checkedSays refusalSays
 returns-2 c file store e seen =
     let h = ruled (c .before .before .before .before .before) file e in
-    sym (answer-unread _ _ _ _ h (omega arith) (sym (c .before .not-reading .ensures _ store (states-are h) (seen-so (c .before .before .before .before .before) store seen)) ∙ c .if2 .taken))
+    sym (answer-unread _ _ _ _ h (omega arith) (sym (c .before .not-reading .ensures _ store (h .numbers) (seen-so (c .before .before .before .before .before) store seen)) ∙ c .if2 .taken))
 
 returns-3 : tie.Need-returns-3
 unfolding checkedSays refusalSays
@@ -61,7 +61,7 @@ returns-4 : tie.Need-returns-4
 unfolding checkedSays
 returns-4 c file store e seen =
     let h = ruled (c .before .before .before .before .before) file e in
-    sym (answer-fine _ _ _ _ h (omega arith) (sym (c .before .not-reading .ensures _ store (states-are h) (seen-so (c .before .before .before .before .before) store seen)) ∙ c .if2 .left))
+    sym (answer-fine _ _ _ _ h (omega arith) (sym (c .before .not-reading .ensures _ store (h .numbers) (seen-so (c .before .before .before .before .before) store seen)) ∙ c .if2 .left))
 
 pub reading-answer-spec : {M : Type 1} → statement M
 reading-answer-spec =

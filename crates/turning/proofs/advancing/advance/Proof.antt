@@ -1,6 +1,8 @@
--- `turning::advancing::advance` meets its contract: what is passed over and then one event, or nothing where no event is left.
+-- `turning::advancing::advance` meets its contract: on a settled level what is passed over and then one
+-- event, or nothing where no event is left; on any other level one event.
 -- Assumes nothing.
 use mathlib.Core.Path.{sym, _∙_}
+use mathlib.Core.Bool.{true}
 use native.Mathlib.Omega.{arith}
 use denote.Ref.{now}
 use lib.Seq.{set-out}
@@ -29,37 +31,51 @@ stands : (c : tie.After-is-settled) → let a = c .before .before .before .befor
     Stands (now (a .book)) (a .reading) (a .top) (c .before .is-held .result) (c .is-settled .result)
 stands c = record { heldIs = c .before .is-held .ensures; settledIs = c .is-settled .ensures _ (c .before .is-held .ensures) }
 
-pass-settled-requires : tie.Need-pass-settled-requires
-pass-settled-requires c κs =
-    let s = c .before .before .before .before .before in
+pass-over-requires : tie.Need-pass-over-requires
+pass-over-requires c κs =
+    let s = c .before .before .before .before .before .before in
     let ready = s .pre .0 in
     (ready .counted, (few-letters (ready .ruled), omega (arith, s .pre .1)))
 
-passed : (c : tie.After-pass-settled) → let a = c .before .before .before .before .before .before .args in
-    PassesOver (a .rule .letters) (now (a .book)) (a .reading) (a .top) (now (a .events)) (a .next) (c .pass-settled .result)
-passed c = c .pass-settled .ensures _ _ (stands (c .before) .settledIs)
+-- where events are passed over the level is settled
+settles : (c : tie.After-pass-over) → let a = c .before .before .before .before .before .before .before .args in
+    Stands (now (a .book)) (a .reading) (a .top) (c .before .before .before .is-held .result) true
+settles c = rw (← c .before .if1 .taken) (stands (c .before .before))
+
+passed : (c : tie.After-pass-over) → let a = c .before .before .before .before .before .before .before .args in
+    PassesOver (a .rule .letters) (now (a .book)) (a .reading) (a .top) (now (a .events)) (a .next) (c .pass-over .result)
+passed c = c .pass-over .ensures _ _ (sym (settles c .settledIs))
 
 take-event-requires : tie.Need-take-event-requires
 take-event-requires c κs =
-    let s = c .before .before .before .before .before .before .before .before .before in
+    let s = c .before .before .before .before .before .before .before .before .before .before in
     let o = passed (c .before .before .before) in
     let ready = passed-ready o (s .pre .0) in
-    let same = passed-stands o (stands (c .before .before .before .before)) in
-    (ready .ruled, (ready .counted, (ready .states, (λ is. held-deep (now (s .args .book)) _ (s .args .top) (sym (same .heldIs) ∙ is), c .if1 .taken))))
+    let same = passed-stands o (settles (c .before .before .before)) in
+    (ready .ruled, (ready .counted, (ready .states, (λ is. held-deep (now (s .args .book)) _ (s .args .top) (sym (same .heldIs) ∙ is), c .if2 .taken))))
 
 returns : tie.Need-returns
 returns c store h top room =
     let o = passed (c .before .before .before .before) in
-    let same = passed-stands o (stands (c .before .before .before .before .before)) in
+    let same = passed-stands o (settles (c .before .before .before .before)) in
     let inStore = rw (← top) at o in
     passes-on _ h _ inStore (c .take-event .ensures _ store same (passed-feeds h inStore) (passed-top h o top) room)
 
 returns-2 : tie.Need-returns-2
 returns-2 c store h top room =
     let inStore = rw (← top) at (passed (c .before .before .before)) in
-    passes-all _ h _ (c .before .before .before .before .before .before .before .before .before .pre .1) _ _ inStore (c .if1 .left) (set-out store _ _ (omega arith))
+    passes-all _ h _ (c .before .before .before .before .before .before .before .before .before .before .pre .1) _ _ inStore (c .if2 .left) (set-out store _ _ (omega arith))
+
+take-event-requires-2 : tie.Need-take-event-requires-2
+take-event-requires-2 c κs =
+    let s = c .before .before .before .before .before .before in
+    let ready = s .pre .0 in
+    (ready .ruled, (ready .counted, (ready .states, (λ is. held-deep (now (s .args .book)) _ (s .args .top) (sym (stands (c .before) .heldIs) ∙ is), s .pre .1))))
+
+returns-3 : tie.Need-returns-3
+returns-3 c store h top room = c .take-event2 .ensures _ store (rw (← c .before .if1 .left) (stands (c .before .before))) h top room
 
 pub advance-spec : {M : Type 1} → statement M
 advance-spec =
     tie.close
-    (tie.spec is-held-requires is-settled-requires pass-settled-requires take-event-requires returns returns-2)
+    (tie.spec is-held-requires is-settled-requires pass-over-requires take-event-requires returns returns-2 take-event-requires-2 returns-3)

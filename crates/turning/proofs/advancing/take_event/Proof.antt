@@ -3,16 +3,16 @@
 -- Assumes nothing.
 use mathlib.Core.Path.{_≡_, refl, sym, _∙_}
 use mathlib.Core.List.{List}
-use Prim.Native.Nat.{ℕ}
+use Prim.Native.Nat.{ℕ, _-_}
 use denote.Ref.{now}
-use lib.ListN.{length, getD}
+use lib.ListN.{length, getD, set}
 use native.Mathlib.Omega.{arith}
 use lib.Seq.{set-out}
 use Rattle.meaning.specs.Answers.{given, _giving_}
 use Rattle.meaning.specs.RuleFile.{ruleOf}
 use Rattle.meaning.specs.declared.Level.{Level}
-use Rattle.meaning.specs.OpenLevels.{storedAfterOf}
 use Rattle.meaning.specs.Calls.{refusalSays, topOf, storedAfter, storeStep}
+use Rattle.meaning.specs.OpenLevels.{storedAfterOf}
 use Rattle.turning.specs.Turns.{turnSays, Stands, over}
 use Rattle.turning.proofs.Steps.{step-of}
 use Rattle.turning.proofs.OneTurn.{takes, refuses}
@@ -54,6 +54,12 @@ cast-place c = search needs
 enum-known-turn-4 : tie.Need-enum-known-turn-4
 enum-known-turn-4 c = search needs
 
+top-place-requires : tie.Need-top-place-requires
+top-place-requires c κs = search needs
+
+enum-known-turn-5 : tie.Need-enum-known-turn-5
+enum-known-turn-5 c = search needs
+
 cast-place-2 : tie.Need-cast-place-2
 cast-place-2 c = search needs
 
@@ -73,9 +79,16 @@ returns-3 c book store stands h top room =
     takes _ h _ (c .before .before .before .before .before .before .before .before .pre .1 .1 .1 .1) _ _ _ (stepped (c .before .before .before .before) book store stands top room ∙ rw (c .before .before .turn3 .given .1)) refl
 
 returns-4 : tie.Need-returns-4
-unfolding turnSays _giving_ storedAfterOf refusalSays
+unfolding turnSays _giving_ storedAfterOf
 returns-4 c book store stands h top room =
-    refuses _ h _ (c .before .before .before .before .before .before .before .before .pre .1 .1 .1 .1) _ _ _ (stepped (c .before .before .before .before) book store stands top room ∙ rw (c .before .before .turn4 .given .1)) (set-out store _ _ (omega arith))
+    let s = c .before .before .before .before .before .before .before .before in
+    let level : Level = c .before .before .turn4 .given .0 .0 in
+    takes _ h _ (s .pre .1 .1 .1 .1) _ _ _ {store′ = set store (s .args .reading .depth - 1) level} (stepped (c .before .before .before .before) book store stands top room ∙ rw (c .before .before .turn4 .given .1)) (rw (c .top-place .ensures))
+
+returns-5 : tie.Need-returns-5
+unfolding turnSays _giving_ storedAfterOf refusalSays
+returns-5 c book store stands h top room =
+    refuses _ h _ (c .before .before .before .before .before .before .before .before .pre .1 .1 .1 .1) _ _ _ (stepped (c .before .before .before .before) book store stands top room ∙ rw (c .before .before .turn5 .given .1)) (set-out store _ _ (omega arith))
 
 pub take-event-spec : {M : Type 1} → statement M
 take-event-spec =
@@ -90,8 +103,11 @@ take-event-spec =
     enum-known-turn-3
     cast-place
     enum-known-turn-4
+    top-place-requires
+    enum-known-turn-5
     cast-place-2
     returns
     returns-2
     returns-3
-    returns-4)
+    returns-4
+    returns-5)

@@ -20,18 +20,21 @@ enum-known-state c = search needs
 looked-requires : tie.Need-looked-requires
 looked-requires c κs = search needs
 
+letter-turn-requires : tie.Need-letter-turn-requires
+letter-turn-requires c κs = search needs
+
 enum-known-number : tie.Need-enum-known-number
 enum-known-number c = search needs
 
 returns : tie.Need-returns
 unfolding turnSays
 returns c =
-    let s = c .before .before .before .before .before .before .before in
-    let read = c .before .before .before .before .before .letter-move .ensures in
-    let made = c .before .before .before .before .look-up .ensures in
-    λ room top. rw (c .looked .ensures)
-    (sym (letter-turn (s .pre .0) room _ (s .args .reading) top _ (s .pre .1 .1 .0) (s .pre .1 .1 .1)
-    ∙ look-gives _ (s .args .reading) LetterMoves _ _ read made (c .before .before .state .given .1)))
+    let s = c .before .before .before .before .before .before .before .before in
+    let read = c .before .before .before .before .before .before .letter-move .ensures in
+    let made = c .before .before .before .before .before .look-up .ensures in
+    λ room. c .letter-turn .ensures _ ∙ rw (c .before .looked .ensures)
+    (sym (letter-turn (s .pre .0) room _ (s .args .reading) (s .args .top) _ (s .pre .1 .1 .0) (s .pre .1 .1 .1)
+    ∙ look-gives _ (s .args .reading) LetterMoves _ _ read made (c .before .before .before .state .given .1)))
 
 returns-2 : tie.Need-returns-2
 unfolding turnSays
@@ -39,7 +42,7 @@ returns-2 c =
     let s = c .before .before .before .before .before .before in
     let read = c .before .before .before .before .letter-move .ensures in
     let made = c .before .before .before .look-up .ensures in
-    λ room top. sym (letter-turn (s .pre .0) room _ (s .args .reading) top _ (s .pre .1 .1 .0) (s .pre .1 .1 .1)
+    λ room. sym (letter-turn (s .pre .0) room _ (s .args .reading) (s .args .top) _ (s .pre .1 .1 .0) (s .pre .1 .1 .1)
     ∙ look-refuses _ (s .args .reading) LetterMoves _ _ read made (c .before .number .given .1))
 
 pub full-letter-spec : {M : Type 1} → statement M
@@ -50,6 +53,7 @@ full-letter-spec =
     look-up-requires
     enum-known-state
     looked-requires
+    letter-turn-requires
     enum-known-number
     returns
     returns-2)

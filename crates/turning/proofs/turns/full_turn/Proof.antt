@@ -29,7 +29,7 @@ full-letter-requires c κs = search needs
 returns-3 : tie.Need-returns-3
 returns-3 c =
     let a = c .before .before .before .before .args in
-    rw (letter-is (a .event) (omega (arith, c .before .before .if1 .left, c .before .if2 .left))) (c .full-letter .ensures (a .room) (a .top))
+    rw (letter-is (a .event) (omega (arith, c .before .before .if1 .left, c .before .if2 .left))) (c .full-letter .ensures (a .room))
 
 pub full-turn-spec : {M : Type 1} → statement M
 full-turn-spec =
