@@ -5,3 +5,4 @@ pub mod Opens
 pub mod TurnLaws
 pub mod AllBelow
 pub mod Ends
+pub mod FeedTurns

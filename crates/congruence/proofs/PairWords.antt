@@ -16,16 +16,15 @@ use borrow.Author.Tests.{ltb-true, ltb-false, eqb-true}
 use Rattle.meaning.specs.Answers.{_<?_, _=?_}
 use Rattle.meaning.specs.StateSets.{statesWhere, someIn, only}
 use Rattle.meaning.specs.RuleFile.{Rule, Move, IsRule, to, letterMove, treeMove, classOf, ruleOf}
-use Rattle.meaning.specs.SkipBook.{anyBelow, goesTo, listed, marked, startMarks, endRound, endsIn, endMarks, wordOf, bit}
+use Rattle.meaning.specs.SkipBook.{anyBelow, goesTo, listed, marked, endMarks, wordOf, bit}
 use Rattle.meaning.specs.Differences.{pair, bothLead, ledApart, ledApartAbove, apart, pairsWhere, pairRound, pairsIn, leastRelation}
 use Rattle.meaning.proofs.laws.Truths.{truth, same-truth, true-is-not-false, not-true-false, and-false-right, or-true-left, or-true-right, both-false}
 use Rattle.meaning.proofs.laws.Answered.{and-true, both-true}
 use Rattle.meaning.proofs.laws.Bools.{last-or-below, listed-at, listed-length, any-below-fails, no-below-any, any-below-same}
 use Rattle.meaning.proofs.skipbook.Bits.{word-below, bit-word, bit-and, bit-zero, bit-past, same-bits, cleared-less}
 use Rattle.meaning.proofs.skipbook.Marks.{marked-below, marked-true}
-use Rattle.meaning.proofs.skipbook.Rounds.{end-keeps, end-alike, ends-never-used-up, marked-ends}
-use Rattle.book.specs.Sets.{StatesOf, StandsFor, firstOf, endsWord, EndsFound}
-use Rattle.book.proofs.InRounds.{word-stays}
+use Rattle.meaning.proofs.skipbook.Rounds.{marks-are-ends}
+use Rattle.book.specs.Sets.{StatesOf, StandsFor, firstOf}
 use Rattle.book.proofs.Standing.{lowest-first, rest-states, members-below, stands-as, stands-word, stands-only, first-true, first-in}
 use Rattle.meaning.proofs.rulefile.Accepted.{accepted-is-rule}
 use Rattle.meaning.proofs.skipbook.Reaching.{letter-below, tree-below, initial-below, ends-below}
@@ -362,13 +361,13 @@ some-is {file} {rule} ok set test states =
 
 -- ---- the states in which a tree can end, as they are found
 
-pub ends-are : {R : Rule} → IsRule R → (set : ℕ) (moves : List ℕ) → EndsFound R 63 set moves → EndsAre R set
-unfolding EndsAre endsWord endMarks endsIn
-ends-are {R} rule set moves found p =
-    ap (λ (w : ℕ). bit w p)
-    (found .setIs
-    ∙ sym (word-stays R (endRound R) (end-keeps R) (end-alike R) (startMarks R) (λ i p e. ends-below rule (marked-ends R i p e)) 63 (ends-never-used-up R rule)))
-    ∙ bit-word (endMarks R) p
+pub ends-are : (R : Rule) (set : ℕ) → set ≡ wordOf (endMarks R) → EndsAre R set
+unfolding EndsAre
+ends-are R set found p = ap (λ (w : ℕ). bit w p) found ∙ bit-word (endMarks R) p
+
+pub ends-states : {R : Rule} → IsRule R → (set : ℕ) → EndsAre R set → StatesOf (R .states) set
+unfolding EndsAre StatesOf
+ends-states {R} rule set found p e = ends-below rule (marks-are-ends R rule p .0 (sym (found p) ∙ e))
 
 -- ---- the initial state
 

@@ -1,29 +1,30 @@
 -- Words that are joined over the members of a set are the sets of the definitions: the letter moves and the tree moves of a whole
 -- set, and what can be reached from it.
-use mathlib.Core.Path.{_≡_, refl, sym, ap, _∙_}
+use mathlib.Core.Path.{_≡_, refl, sym, ap, subst, _∙_}
 use mathlib.Core.Logic.{⊎-elim}
 use mathlib.Core.Bool.{Bool, true, false, _&&_, _||_}
 use mathlib.Core.List.{List}
-use Prim.Native.Nat.{ℕ, _^_, _≤_, _<_}
+use Prim.Native.Nat.{ℕ, _+_, _^_, _≤_, _<_}
+use native.Mathlib.Numerals.{add-one}
 use native.Mathlib.Omega.{arith}
-use lib.ListN.{length, getD}
-use lib.Bits.{bitOr, or-add-and, and-le-r}
-use borrow.Author.Tests.{ltb-true, ltb-false}
-use Rattle.meaning.specs.Answers.{_<?_}
+use lib.ListN.{length, getD, set, length-set}
+use lib.Seq.{getD-set-same, getD-set-other}
 use Rattle.meaning.specs.RuleFile as format
 use Rattle.meaning.specs.RuleFile.{Rule, IsRule, letterMove, treeMove, to}
 use Rattle.meaning.specs.SkipBook.{Reach, anyBelow, goesTo, listed, marked, oneMove, endMarks, bit}
 use Rattle.meaning.specs.StateSets.{statesWhere, someIn, reachable, letterMoves, treeMoves}
 use Rattle.meaning.proofs.laws.Answered.{and-true, both-true}
 use Rattle.meaning.proofs.laws.Truths.{truth, true-is-not-false, same-truth, or-cases, or-true-left, or-true-right}
-use Rattle.meaning.proofs.laws.Bools.{any-below, below-any, listed-length}
-use Rattle.meaning.proofs.skipbook.Bits.{bit-zero, same-bits, bit-or, bit-past}
+use Rattle.meaning.proofs.laws.Bools.{any-below, below-any, any-below-same, last-or-below, listed-length}
+use Rattle.meaning.proofs.skipbook.Bits.{bit-zero, bit-within, same-bits}
 use Rattle.meaning.proofs.skipbook.Marks.{marked-below, marked-true}
 use Rattle.meaning.proofs.skipbook.Reaching.{letter-below, tree-below, reach-least, reach-letter, reach-tree, reach-itself, reach-below, ends-below}
 use Rattle.meaning.proofs.skipbook.Rounds.{most-states, goes-true, letter-one, tree-one, one-by, marks-are-ends}
 use Rattle.meaning.proofs.congruence.Sets.{Member, Some, in-reachable, reachable-in, reachable-low}
-use Rattle.book.specs.Sets.{StandsFor, StatesOf, Moves, joined, byTrees}
+use Rattle.book.specs.Sets.{StandsFor, StatesOf, byLetters, byTrees, oneMoveWith}
 use Rattle.book.proofs.Standing.{Turn, stands-as, stands-word, members-below}
+use Rattle.congruence.specs.Rows.{EndsAre}
+use Rattle.congruence.specs.MoveTables.{Moves, joined}
 
 -- a word that stands for a test that only states of the rule pass is the set of these states
 pub set-word : {R : Rule} → IsRule R → (w : ℕ) (test : ℕ → Bool) → w < 2 ^ 64 → ((p : ℕ) → test p ≡ true → p < R .states)
@@ -65,20 +66,49 @@ module _ {R : Rule} (rule : IsRule R) (w : ℕ) (small : w < 2 ^ 64) where
       let q = any-below (R .states) (λ q. bit lowers q && goesTo p (treeMove R (s .0) q)) (and-true (bit above (s .0)) _ (s .2) .1) in
       tree-below rule (s .0) (q .0) (goes-true p _ (and-true (bit lowers (q .0)) _ (q .2) .1))) stands
 
+-- ---- a table of the moves
+
+-- what is one move away with the states in which a tree can end as lower states
+pub one-move-ends : (R : Rule) (lowers q word : ℕ) → EndsAre R lowers → StandsFor word (oneMoveWith R lowers q)
+    → StandsFor word (oneMove R (endMarks R) q)
+unfolding EndsAre oneMoveWith byLetters byTrees oneMove
+one-move-ends R lowers q word ends stands =
+    stands-as word _ _ (λ p h. ap (λ (b : Bool). byLetters R q p || b)
+    (any-below-same (R .states) _ _ (λ lower l. ap (λ (b : Bool). b && goesTo p (treeMove R q lower)) (ends lower)))) stands
+
+-- filled from the front
+pub record Filled (P : ℕ → ℕ → Type 0) (i : ℕ) (table : List ℕ) : Type 0 where
+  pub long : length table ≡ 64
+  pub each : (q : ℕ) → q < i → P q (getD table q 0)
+
+pub filled-first : (P : ℕ → ℕ → Type 0) (table : List ℕ) → length table ≡ 64 → Filled P 0 table
+filled-first P table e = record { long = e; each = λ q h. absurd (omega arith) }
+
+pub filled-next : (P : ℕ → ℕ → Type 0) (i w : ℕ) (table : List ℕ) → i < 64 → Filled P i table → P i w → Filled P (i + 1) (set table i w)
+filled-next P i w table h f here = record {
+  long = length-set table i w ∙ f .long;
+  each = λ q l. ⊎-elim (last q) (rest q) (last-or-below (rw add-one at l));
+}
+  where
+    last : (q : ℕ) → q ≡ i → P q (getD (set table i w) q 0)
+    last q e = rw e (subst (P i) (sym (getD-set-same table i w 0 (rw (f .long) h))) here)
+
+    rest : (q : ℕ) → q < i → P q (getD (set table i w) q 0)
+    rest q l = subst (P q) (sym (getD-set-other table i q w 0 (λ e. omega arith))) (f .each q l)
+
+-- the members of a set joined to it by the table, before the first
+abbrev pub tableHas : List ℕ → ℕ → ℕ → Bool
+tableHas table m p = bit (getD table m 0) p
+
+pub table-first : (table : List ℕ) (set : ℕ) → set < 2 ^ 64 → Turn (tableHas table) (joined table set) set set
+unfolding joined
+table-first table set h = record { small = h; same = λ p l. refl }
+
+pub stands-itself : (w : ℕ) → StandsFor w (bit w)
+unfolding StandsFor
+stands-itself w p h = refl
+
 -- ---- what can be reached
-
--- a word that holds the members of another is no less
-pub more-bits : (v w : ℕ) → ((p : ℕ) → bit v p ≡ true → bit w p ≡ true) → v ≤ w
-more-bits v w more =
-    let same : bitOr v w ≡ w =
-    same-bits (bitOr v w) w (λ p. bit-or v w p ∙ same-truth (bit v p || bit w p) (bit w p)
-    (λ t. ⊎-elim (more p) (λ e. e) (or-cases (bit v p) (bit w p) t)) (λ e. or-true-right (bit v p) e)) in
-    omega (arith, or-add-and v w, and-le-r v w, same)
-
--- a member of a word of 64 bits is below 64
-bit-below : (w p : ℕ) → w < 2 ^ 64 → bit w p ≡ true → p < 64
-bit-below w p small e =
-    ⊎-elim (λ t. ltb-true p 64 t) (λ f. true-is-not-false e (bit-past 64 w p small (ltb-false p 64 f))) (truth (p <? 64))
 
 -- What is joined so far holds the set, and each member of it can be reached from it.
 pub record Reaching (moves : List ℕ) (set all : ℕ) : Type 0 where
@@ -101,7 +131,7 @@ module _ (moves : List ℕ) (set all next : ℕ) (so : Reaching moves set all) (
   -- what was there is there
   pub joined-more : (p : ℕ) → bit all p ≡ true → bit next p ≡ true
   unfolding StandsFor joined
-  joined-more p e = joins p (bit-below all p (so .small) e) ∙ or-true-left _ e
+  joined-more p e = joins p (bit-within 64 all p (so .small) e) ∙ or-true-left _ e
 
   -- one more move leads to what can be reached
   pub reaching-next : Reaching moves set next
@@ -111,7 +141,7 @@ module _ (moves : List ℕ) (set all next : ℕ) (so : Reaching moves set all) (
         small = small;
         holds = λ p e. joined-more p (so .holds p e);
         from = λ R rule good states p e.
-            let low = bit-below next p small e in
+            let low = bit-within 64 next p small e in
             ⊎-elim (so .from R rule good states p)
             (λ t. let s = any-below 64 (λ m. bit all m && bit (getD moves m 0) p) t in
             let b = and-true (bit all (s .0)) _ (s .2) in

@@ -17,7 +17,8 @@ ghost use Rattle.meaning.specs.Answers.{_<?_};
 ghost use Rattle.meaning.specs.SkipBook.{allBelow, endMarks, bit};
 ghost use Rattle.meaning.specs.Differences.{pair, stopped};
 ghost use Rattle.meaning.specs.SetCalls.{setRoom, setLevelAt, setOut, relationOut, levelOut, storedOut, notSetReading};
-ghost use Rattle.book.specs.Sets.{StatesOf, Moves};
+ghost use Rattle.book.specs.Sets.{StatesOf};
+ghost use Rattle.congruence.specs.MoveTables.{Moves};
 ghost use Rattle.congruence.specs.Stores.{storeOf};
 ghost use Rattle.congruence.specs.Turns.{StandsSet};
 

@@ -6,8 +6,8 @@ use crate::levels::class_of_set;
 use crate::opening::MOST_STATES;
 use crate::opening::TOO_MANY_STATES;
 use crate::relations::wide;
+use crate::sets::ways_of;
 use crate::store::level_at;
-use book::rounds::tree_ends;
 use meaning::Refusal;
 use meaning::sets::SetReading;
 use rule::Checked;
@@ -20,7 +20,7 @@ ghost use Rattle.meaning.specs.SkipBook.{endMarks};
 ghost use Rattle.meaning.specs.SetTurns.{setEndOf};
 ghost use Rattle.meaning.specs.SetCalls.{setTopOf, notSetReading, setFinishCall};
 ghost use Rattle.rule.specs.Says.{RuleOf};
-ghost use Rattle.book.specs.Sets.{Moves};
+ghost use Rattle.congruence.specs.MoveTables.{Moves};
 ghost use Rattle.congruence.specs.Stores.{storeOf, countingOf, endSays};
 
 // What a finish answers: the class of the states that count, or a refusal.
@@ -40,7 +40,7 @@ fn counting(level: Standing, set: u16) -> u64
 }
 
 // The end of a reading that is one.
-fn set_end(
+pub fn set_end(
     file: &[u8],
     rule: Rule,
     moves: &[u64; 64],
@@ -83,8 +83,8 @@ fn finish_small(
     requires { ⌜ rule .states ≤ 16 ⌝ }
     ensures { λ r. ⌜ endSays r ≡ setFinishCall (now (file .entry)) reading (storeOf (now (words .entry)) (now (places .entry))) ⌝ }
 {
-    let ends = tree_ends(file, rule);
-    let moves = ends.moves;
+    let ways = ways_of(file, rule);
+    let moves = ways.moves;
     if not_set_reading(rule.states, &moves, reading, words, places) {
         return SetEnd::Refused(Refusal {
             number: 13,

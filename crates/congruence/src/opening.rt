@@ -1,7 +1,7 @@
 // Opening: the rule check, the count of states, and the fresh reading.
 use crate::relations::narrow;
 use crate::relations::top_relation;
-use book::rounds::tree_ends;
+use book::ends::tree_ends;
 use book::sets::only;
 use meaning::Refusal;
 use meaning::sets::SetReading;
@@ -14,16 +14,17 @@ ghost use Rattle.meaning.specs.Answers as answers;
 ghost use Rattle.meaning.specs.SetTurns.{freshSets};
 ghost use Rattle.meaning.specs.SetCalls.{setOpenCall};
 ghost use Rattle.rule.specs.Says.{RuleOf};
+ghost use Rattle.congruence.specs.Rows.{EndsAre};
 ghost use Rattle.congruence.specs.Opens.{setOpening};
 
 // The initial state alone, the relation of the top level, and four zeros.
-pub fn fresh_sets(file: &[u8], rule: Rule) -> SetReading
+pub fn fresh_sets(file: &[u8], rule: Rule, ends: u64) -> SetReading
     requires { ⌜ RuleOf (now file) rule ⌝ }
     requires { ⌜ rule .states ≤ 16 ⌝ }
+    requires { ⌜ EndsAre (ruleOf (now file)) ends ⌝ }
     ensures { λ r. ⌜ r ≡ freshSets (ruleOf (now (file .entry))) ⌝ }
 {
-    let ends = tree_ends(file, rule);
-    let relation = top_relation(file, rule, ends.set);
+    let relation = top_relation(file, rule, ends);
     let set = narrow(only(rule.initial));
     SetReading {
         set,
@@ -82,7 +83,8 @@ fn open_rule(file: &[u8], rule: Rule) -> SetOpening
             place: 0,
         });
     }
-    let reading = fresh_sets(file, rule);
+    let ends = tree_ends(file, rule);
+    let reading = fresh_sets(file, rule, ends);
     SetOpening {
         reading,
         ended: SetOpened::Ready,

@@ -16,7 +16,7 @@ ghost use Rattle.meaning.specs.StateSets.{statesWhere};
 ghost use Rattle.rule.specs.Says.{RuleOf};
 ghost use Rattle.rule.specs.Tables.{moveSays};
 ghost use Rattle.book.specs.Sets.{StatesOf};
-ghost use Rattle.congruence.specs.Rows.{LeadsLow, EndsAre, SameRows, goesIn, isOf};
+ghost use Rattle.congruence.specs.Rows.{LeadsLow, EndsAre, SameRows, Remembers, goesIn, isOf};
 
 // Whether a state is in the set that a word stands for: its bit.
 pub fn in_set(word: u64, state: u8) -> bool
@@ -411,4 +411,69 @@ pub fn lower_relation(
 {
     let start = relation_of(Kind::Lower, file, rule, lowers, set, relation);
     least(file, rule, lowers, start)
+}
+
+// The relation of an opened level that was made last, with the set and the relation that it was made of: levels that are opened one
+// after the other under the same level have the same.
+pub struct Memory {
+    pub known: bool,
+    pub set: u16,
+    pub above: [u16; 16],
+    pub below: [u16; 16],
+}
+
+// Nothing was made yet.
+pub fn no_memory() -> Memory
+    ensures { λ r. ⌜ ((R : format.Rule) → Remembers R r) ⌝ }
+{
+    let none = no_pairs();
+    Memory {
+        known: false,
+        set: 0,
+        above: none,
+        below: none,
+    }
+}
+
+// Whether a relation is remembered of a set and a relation.
+fn has(memory: Memory, set: u16, relation: &[u16; 16]) -> bool
+    requires { ⌜ length (now relation) ≡ 16 ⌝ }
+    ensures { λ r. ⌜ (r ≡ true → (R : format.Rule) → Remembers R memory → memory .below ≡ lowerRelation R set (now (relation .entry))) ⌝ }
+{
+    if !memory.known {
+        return false;
+    }
+    if memory.set != set {
+        return false;
+    }
+    let above = memory.above;
+    same(&above, relation)
+}
+
+// The relation of a level opened under a set with its relation, remembered or made.
+pub fn recall(
+    file: &[u8],
+    rule: Rule,
+    lowers: u64,
+    memory: Memory,
+    set: u16,
+    relation: [u16; 16],
+) -> Memory
+    requires { ⌜ RuleOf (now file) rule ⌝ }
+    requires { ⌜ rule .states ≤ 16 ⌝ }
+    requires { ⌜ EndsAre (ruleOf (now file)) lowers ⌝ }
+    requires { ⌜ length relation ≡ 16 ⌝ }
+    requires { ⌜ Remembers (ruleOf (now file)) memory ⌝ }
+    ensures { λ r. ⌜ Remembers (ruleOf (now (file .entry))) r × (r .below ≡ lowerRelation (ruleOf (now (file .entry))) set relation) ⌝ }
+{
+    if has(memory, set, &relation) {
+        return memory;
+    }
+    let below = lower_relation(file, rule, lowers, wide(set), &relation);
+    Memory {
+        known: true,
+        set,
+        above: relation,
+        below,
+    }
 }

@@ -1,6 +1,5 @@
 // What one event leads to, from the reading and the innermost level alone: the level store is not seen here. Each function answers what
 // the definition of its name says.
-use crate::relations::lower_relation;
 use crate::relations::narrow;
 use crate::relations::wide;
 use crate::sets::letter_moves;
@@ -13,17 +12,18 @@ use rule::tables::Table;
 use turning::turns::MOST_EVENTS;
 use turning::turns::no_move_number;
 ghost use mathlib.Core.Path.{_≡_};
+ghost use mathlib.Core.Bool.{false};
 ghost use Prim.Native.Nat.{ℕ, _+_, _<_, _≤_};
 ghost use Rattle.meaning.specs.RuleFile.{ruleOf};
 ghost use Rattle.meaning.specs.FullReading.{opens, closes, letter, eventOf};
 ghost use Rattle.meaning.specs.StateSets.{treeStarts, reachable};
+ghost use Rattle.meaning.specs.Differences.{lowerRelation};
 ghost use Rattle.meaning.specs.Answers as answers;
 ghost use Rattle.meaning.specs.OpenLevels as levels;
 ghost use Rattle.meaning.specs.SetTurns.{setLooked, setPassed, setCloses, movingTurn, stoppedTurn, setEvent};
 ghost use Rattle.rule.specs.Says.{RuleOf};
 ghost use Rattle.rule.specs.Tables.{tableSays};
 ghost use Rattle.book.specs.Sets.{StatesOf};
-ghost use Rattle.congruence.specs.Rows.{EndsAre};
 ghost use Rattle.congruence.specs.Turns.{setTurnSays, lookSays, SetsIn, SetCounted, OneMoreSet, StandsSet};
 
 // What becomes of the open levels: they stay, one more is stored, the innermost ends, or the event is refused with a number. The place of
@@ -167,14 +167,14 @@ fn moving_letter(file: &[u8], rule: Rule, ceiling: u32, reading: SetReading, a: 
 fn moving_open(
     file: &[u8],
     rule: Rule,
-    ends: u64,
+    below: [u16; 16],
     room: usize,
     ceiling: u32,
     reading: SetReading,
 ) -> SetTurn
     requires { ⌜ RuleOf (now file) rule ⌝ }
     requires { ⌜ rule .states ≤ 16 ⌝ }
-    requires { ⌜ EndsAre (ruleOf (now file)) ends ⌝ }
+    requires { ⌜ below ≡ lowerRelation (ruleOf (now file)) (reading .set) (reading .relation) ⌝ }
     requires { ⌜ OneMoreSet reading ⌝ }
     ensures { λ r. ⌜ ((top : SetLevel) → setTurnSays reading r ≡ movingTurn (ruleOf (now (file .entry))) room ceiling reading top opens) ⌝ }
 {
@@ -183,8 +183,6 @@ fn moving_open(
         return refused(reading, 8);
     }
     let next = target(rule::tables::tree_start(rule));
-    let relation = reading.relation;
-    let below = lower_relation(file, rule, ends, wide(reading.set), &relation);
     look(
         ceiling,
         reading,
@@ -196,11 +194,11 @@ fn moving_open(
     )
 }
 
-// An event on a level that is not stopped.
+// An event on a level that is not stopped. What opens has the relation that is handed in.
 fn moving_turn(
     file: &[u8],
     rule: Rule,
-    ends: u64,
+    below: [u16; 16],
     room: usize,
     ceiling: u32,
     reading: SetReading,
@@ -209,14 +207,14 @@ fn moving_turn(
 ) -> SetTurn
     requires { ⌜ RuleOf (now file) rule ⌝ }
     requires { ⌜ rule .states ≤ 16 ⌝ }
-    requires { ⌜ EndsAre (ruleOf (now file)) ends ⌝ }
+    requires { ⌜ (event ≡ 0 → below ≡ lowerRelation (ruleOf (now file)) (reading .set) (reading .relation)) ⌝ }
     requires { ⌜ OneMoreSet reading ⌝ }
     requires { ⌜ SetsIn rule reading top ⌝ }
     requires { ⌜ event < rule .letters + 2 ⌝ }
     ensures { λ r. ⌜ setTurnSays reading r ≡ movingTurn (ruleOf (now (file .entry))) room ceiling reading top (eventOf event) ⌝ }
 {
     if event == 0 {
-        return moving_open(file, rule, ends, room, ceiling, reading);
+        return moving_open(file, rule, below, room, ceiling, reading);
     }
     if event == 1 {
         return set_closes(file, rule, ceiling, reading, top, wide(reading.set));
@@ -259,7 +257,7 @@ fn stopped_turn(
 pub fn set_event(
     file: &[u8],
     rule: Rule,
-    ends: u64,
+    below: [u16; 16],
     all: u64,
     still: bool,
     room: usize,
@@ -270,7 +268,7 @@ pub fn set_event(
 ) -> SetTurn
     requires { ⌜ RuleOf (now file) rule ⌝ }
     requires { ⌜ rule .states ≤ 16 ⌝ }
-    requires { ⌜ EndsAre (ruleOf (now file)) ends ⌝ }
+    requires { ⌜ (still ≡ false → event ≡ 0 → below ≡ lowerRelation (ruleOf (now file)) (reading .set) (reading .relation)) ⌝ }
     requires { ⌜ StandsSet (ruleOf (now file)) reading all still ⌝ }
     requires { ⌜ SetCounted reading ⌝ }
     requires { ⌜ SetsIn rule reading top ⌝ }
@@ -286,5 +284,5 @@ pub fn set_event(
     if still {
         return stopped_turn(file, rule, all, ceiling, reading, top, event);
     }
-    moving_turn(file, rule, ends, room, ceiling, reading, top, event)
+    moving_turn(file, rule, below, room, ceiling, reading, top, event)
 }

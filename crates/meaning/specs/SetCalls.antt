@@ -120,6 +120,10 @@ unfoldable pub setFeedCall : List ℕ → ℕ → SetReading → SetStore → Li
 setFeedCall file ceiling r store events =
     setFedFrom (setCheck file r store) ceiling (record { reading = r; store = store }) events
 
+-- how many events it took: those taken since
+abbrev pub setEventsTaken : SetReading → Went SetStored → ℕ
+setEventsTaken before fed = fed .last .reading .taken - before .taken
+
 -- ---- finish
 
 -- The class of the states that count; there is no end state.

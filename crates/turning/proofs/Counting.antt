@@ -1,7 +1,7 @@
 -- Counting over runs of events. A run of known events whose closes are no more than the skip depth is passed over: no close of
 -- it can end the level, since the closes before it and it are no more than that depth. So is a run whose lowest depth, from the
 -- skip depth, is not below zero; runs that were followed side by side are joined, each moved to where the one before it ended.
-use mathlib.Core.Path.{_≡_, refl, _∙_}
+use mathlib.Core.Path.{_≡_, refl, ap, _∙_}
 use mathlib.Core.Bool.{Bool, true, false}
 use mathlib.Core.List.{List, [], _∷_, _++_}
 use Prim.Native.Nat.{ℕ, zero, suc, _+_, _-_, _≤_, _<_}
@@ -12,8 +12,10 @@ use lib.ListN.{length, getD, take, drop, length-append, length-take, length-drop
 use lib.Seq.{take-suc, take-add, take-length, length-take-le, drop-drop, getD-drop}
 use Rattle.meaning.specs.Answers.{_=?_, _≤?_, if_then_else_}
 use Rattle.meaning.proofs.laws.Answered.{if-true, if-false}
-use Rattle.turning.specs.PassingOver.{openings, closings, unknowns, total, Passing, passNone, passOne, oneMore, joined, DepthsOf, PassedIn}
+use Rattle.meaning.specs.FullReading.{mostEvents}
+use Rattle.turning.specs.PassingOver.{openings, closings, unknowns, total, Passing, passNone, passOne, oneMore, joined, DepthsOf, PassedIn, RunPassed}
 use Rattle.turning.specs.declared.passing.Depths.{Depths}
+use Rattle.turning.specs.declared.passing.PassedRun.{PassedRun}
 
 -- ---- one event: one or none
 
@@ -127,6 +129,49 @@ outlasted (e ∷ es) skip h =
     let rest = outlasted es next (omega arith) in
     let n : skip + (openings e + total openings es) - (closings e + total closings es) ≡ next + total openings es - total closings es = omega arith in
     rw n (passOne {skip = skip} {e = e} (omega arith) rest)
+
+-- ---- a run of all events, from a place on
+
+-- no event yet
+pub run-none : (k taken skip : ℕ) (events : List ℕ) (from : ℕ) → from ≤ length events → taken ≤ mostEvents
+    → RunPassed k taken skip events from (record { skip = skip; next = from })
+unfolding total
+run-none k taken skip events from within limit =
+    let none : from - from ≡ 0 = omega arith in
+    record {
+      further = omega arith;
+      within = within;
+      limit = omega arith;
+      allKnown = rw none refl;
+      passing = rw none passNone;
+    }
+
+-- and some more
+pub run-more : (k taken skip : ℕ) (events : List ℕ) (from skip′ i count skip″ : ℕ)
+    → RunPassed k taken skip events from (record { skip = skip′; next = i }) → i + count ≤ length events
+    → taken + (i + count - from) ≤ mostEvents → total (unknowns (k + 2)) (take count (drop i events)) ≡ 0
+    → Passing skip′ (take count (drop i events)) skip″
+    → RunPassed k taken skip events from (record { skip = skip″; next = i + count })
+run-more k taken skip events from skip′ i count skip″ so within limit known passing =
+    let far : i + count - from ≡ i - from + count = omega (arith, so .further) in
+    let at : from + (i - from) ≡ i = omega (arith, so .further) in
+    let rest : take count (drop (i - from) (drop from events)) ≡ take count (drop i events) =
+    ap (take count) (drop-drop (i - from) from events ∙ ap (λ (n : ℕ). drop n events) at) in
+    let split : take (i + count - from) (drop from events) ≡ take (i - from) (drop from events) ++ take count (drop i events) =
+    rw far (take-add (i - from) count (drop from events) ∙ ap (λ (es : List ℕ). take (i - from) (drop from events) ++ es) rest) in
+    record {
+      further = omega (arith, so .further);
+      within = within;
+      limit = limit;
+      allKnown = rw split (omega (arith, total-append (unknowns (k + 2)) (take (i - from) (drop from events)) (take count (drop i events)), so .allKnown, known));
+      passing = rw split (passing-append (so .passing) passing);
+    }
+
+-- its skip depth
+pub run-few : {k taken skip : ℕ} {events : List ℕ} {from : ℕ} {run : PassedRun} → RunPassed k taken skip events from run
+    → run .skip ≤ skip + (run .next - from)
+run-few {events} {from} {run} so =
+    omega (arith, passing-few (so .passing), length-take (run .next - from) (drop from events), so .within)
 
 -- all of a run was passed over
 pub passed-whole : (known skip skip′ : ℕ) (events : List ℕ) → total (unknowns known) events ≡ 0 → Passing skip events skip′

@@ -170,7 +170,7 @@ passes-on {file} {rule} {book} ceiling {r} {store} h events o a =
 
 -- ---- turn by turn
 
-restOf-none : (x : Feeding) (step : Stored → ℕ → Answer Stored) (s : Stored) → restOf x s (feedBy step s []) ≡ record { last = s; ended = feedingSays x }
+pub restOf-none : {A : Type 0} (x : Feeding) (step : A → ℕ → Answer A) (s : A) → restOf x s (feedBy step s []) ≡ record { last = s; ended = feedingSays x }
 unfolding restOf feedingSays
 restOf-none feeding.AllTaken step s = feed-none step s
 restOf-none (feeding.Refused f) step s = refl

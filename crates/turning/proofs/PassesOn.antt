@@ -1,16 +1,15 @@
 -- Passing over on a settled level by counting, which its loop keeps: feeding from here comes to what feeding from the start
 -- comes to. One known event that does not end the level is taken without a look, and only the skip depth and the events taken
 -- change, so the level stays settled.
-use mathlib.Core.Path.{_≡_, refl, ap, _∙_}
+use mathlib.Core.Path.{_≡_, refl, sym, ap, _∙_}
 use mathlib.Core.Bool.{true}
-use mathlib.Core.List.{List}
+use mathlib.Core.List.{List, [], _∷_, _++_}
 use Prim.Native.Nat.{ℕ, zero, suc, _+_, _-_, _≤_, _<_}
-use native.Mathlib.Numerals.{add-one}
 use native.Mathlib.Omega.{arith}
 use borrow.Author.Tests.{lt-ltb, lt-leb}
-use lib.ListN.{length, getD, take, drop}
-use lib.Seq.{drop-cons}
-use Rattle.meaning.specs.Answers.{given}
+use lib.ListN.{length, take, drop, take-append-drop, length-drop}
+use lib.Seq.{drop-drop, length-take-le}
+use Rattle.meaning.specs.Answers.{Answer, given}
 use Rattle.meaning.specs.RuleFile.{Rule}
 use Rattle.meaning.specs.FullReading.{mostEvents, eventOf, knownEvent, stays, feedBy}
 use Rattle.meaning.specs.Skipping.{held, settled, passed, settledTurn, skipTurn, skipEvent}
@@ -21,9 +20,10 @@ use Rattle.meaning.specs.declared.Reading.{Reading}
 use Rattle.meaning.proofs.laws.FeedLaws.{feed-taken}
 use Rattle.meaning.proofs.laws.Answered.{if-true, refuse-passes, giving-passes}
 use Rattle.turning.specs.Turns.{over}
-use Rattle.turning.specs.PassingOver.{openings, closings, unknowns, total, Passing, passedOn, PassesOver}
+use Rattle.turning.specs.PassingOver.{openings, closings, unknowns, total, Passing, RunPassed, passedOn, PassesOver}
 use Rattle.turning.specs.declared.PassedTo.{PassedTo}
-use Rattle.turning.proofs.Counting.{opens-one, opens-none, opens-few, closes-one, closes-none, known-cons, passing-nil, passing-cons}
+use Rattle.turning.specs.declared.passing.PassedRun.{PassedRun}
+use Rattle.turning.proofs.Counting.{opens-one, opens-none, closes-one, closes-none, known-cons, passing-nil, passing-cons, run-few}
 
 -- ---- one event
 
@@ -79,72 +79,61 @@ on-none : (r : Reading) → passedOn r (r .skip) 0 ≡ r
 unfolding passedOn
 on-none r = let n : r .taken + 0 ≡ r .taken = omega arith in rw n
 
-module _ (k : ℕ) (r : Reading) (events : List ℕ) (from : ℕ) where
-  pub record Passes (skip i : ℕ) : Type 0 where
-    pub further : from ≤ i
-    pub within : i ≤ length events
-    pub nested : r .depth + skip ≤ r .taken + (i - from)
-    pub feeds : (book : List ℕ) (R : Rule) (ceiling : ℕ) (store : List Level) → R .letters ≡ k
-        → settled book r (topOf r store) ≡ true
-        → feedBy (storeStep R book ceiling) (over r store) (drop from events)
-        ≡ feedBy (storeStep R book ceiling) (over (passedOn r skip (i - from)) store) (drop i events)
+-- ---- any run that is passed over, in any way of reading
 
-  pub passes-start : from ≤ length events → r .depth + r .skip ≤ r .taken → Passes (r .skip) from
-  passes-start within nested =
-      let n : from - from ≡ 0 = omega arith in
-      record {
-        further = omega arith;
-        within = within;
-        nested = omega arith;
-        feeds = λ book R ceiling store letters is. rw (n, on-none r);
-      }
+-- A way of reading whose level lets known events pass: each leaves all but the skip depth and the events taken as it was.
+module _ {A : Type 0} (step : A → ℕ → Answer A) (k taken : ℕ) (at : ℕ → ℕ → A)
+    (one : (skip n e : ℕ) → taken + n < mostEvents → e < k + 2 → closings e ≤ skip
+    → step (at skip n) e ≡ given (at (skip + openings e - closings e) (n + 1))) where
+  events-pass : (es rest : List ℕ) (skip skip′ n : ℕ) → taken + (n + length es) ≤ mostEvents → total (unknowns (k + 2)) es ≡ 0
+      → Passing skip es skip′ → feedBy step (at skip n) (es ++ rest) ≡ feedBy step (at skip′ (n + length es)) rest
+  events-pass [] rest skip skip′ n limit known p =
+      let all : n + 0 ≡ n = omega arith in
+      rw (all, passing-nil p) refl
+  events-pass (e ∷ es) rest skip skip′ n limit known p =
+      let is = known-cons (k + 2) e es known in
+      let first = passing-cons p in
+      let all : n + 1 + length es ≡ n + length (e ∷ es) = omega arith in
+      feed-taken _ _ (one skip n e (omega arith) (is .0) (first .0))
+      ∙ (events-pass es rest (skip + openings e - closings e) skip′ (n + 1) (omega arith) (is .1) (first .1)
+      ∙ ap (λ (m : ℕ). feedBy step (at skip′ m) rest) all)
 
-  pub passes-on : (skip i : ℕ) → Passes skip i → i < length events → r .taken + (i - from) < mostEvents
-      → getD events i 0 < k + 2 → closings (getD events i 0) ≤ skip
-      → Passes (skip + openings (getD events i 0) - closings (getD events i 0)) (i + 1)
-  unfolding passedOn
-  passes-on skip i p inside more known h =
-      let e : ℕ = getD events i 0 in
-      let at : Reading = passedOn r skip (i - from) in
-      let next : ℕ = skip + openings e - closings e in
-      record {
-        further = omega (arith, p .further);
-        within = omega arith;
-        nested = omega (arith, p .nested, p .further, opens-few e);
-        feeds = λ book R ceiling store letters is.
-            p .feeds book R ceiling store letters is
-            ∙ (rw (drop-cons events i 0 inside, add-one i)
-            (feed-taken _ _ (pass-step R book ceiling at store e (on-settled book r store skip (i - from) is) more (rw letters known) h))
-            ∙ ap (λ s. feedBy (storeStep R book ceiling) (over s store) (drop (i + 1) events)) (on-more r skip next (i - from) (i + 1 - from) (omega (arith, p .further))));
-      }
+  -- feeding goes on from where the run was left as it would have gone on from where it began
+  pub run-passes : {events : List ℕ} {from skip : ℕ} {run : PassedRun} → RunPassed k taken skip events from run
+      → feedBy step (at skip 0) (drop from events) ≡ feedBy step (at (run .skip) (run .next - from)) (drop (run .next) events)
+  run-passes {events} {from} {skip} {run} so =
+      let many : ℕ = run .next - from in
+      let es : List ℕ = drop from events in
+      let long : length (take many es) ≡ many = length-take-le many es (omega (arith, length-drop from events, so .within)) in
+      let all : 0 + length (take many es) ≡ many = omega (arith, long) in
+      let there : from + many ≡ run .next = omega (arith, so .further) in
+      let left : drop many es ≡ drop (run .next) events = drop-drop many from events ∙ ap (λ (n : ℕ). drop n events) there in
+      ap (λ (l : List ℕ). feedBy step (at skip 0) l) (sym (take-append-drop many es))
+      ∙ (events-pass (take many es) (drop many es) skip (run .skip) 0 (omega (arith, long, so .limit)) (so .allKnown) (so .passing)
+      ∙ (ap (λ (n : ℕ). feedBy step (at (run .skip) n) (drop many es)) all ∙ ap (λ (l : List ℕ). feedBy step (at (run .skip) many) l) left))
 
-  -- a run that is passed over by counting
-  pub passes-run : (n skip skip′ i : ℕ) → Passes skip i → i + n ≤ length events → r .taken + (i + n - from) ≤ mostEvents
-      → total (unknowns (k + 2)) (take n (drop i events)) ≡ 0 → Passing skip (take n (drop i events)) skip′ → Passes skip′ (i + n)
-  passes-run zero skip skip′ i p within limit known q =
-      let n : i + 0 ≡ i = omega arith in
-      rw (n, ← passing-nil q) p
-  passes-run (suc n) skip skip′ i p within limit known q =
-      let inside : i < length events = omega arith in
-      let split = drop-cons events i 0 inside in
-      let is = known-cons (k + 2) _ _ (rw split at known) in
-      let one = passing-cons (rw split at q) in
-      let m : i + suc n ≡ i + 1 + n = omega arith in
-      rw m
-      (passes-run n _ skip′ (i + 1) (passes-on skip i p inside (omega (arith, p .further)) (is .0) (one .0)) (omega arith) (omega arith)
-      (rw (add-one i) (is .1)) (rw (add-one i) (one .1)))
+-- ---- skipping is such a way
 
-  -- where passing over was left
-  pub passes-left : (skip i : ℕ) (p : PassedTo) → Passes skip i → (p .reading ≡ passedOn r skip (i - from)) × (p .next ≡ i)
-      → (book : List ℕ) (top : Level) → settled book r top ≡ true → PassesOver k book r top events from p
-  unfolding passedOn
-  passes-left skip i p h left book top is =
-      let same : p .reading .skip ≡ skip = ap (λ (s : Reading). s .skip) (left .0) in
-      record {
-        further = rw (left .1) (h .further);
-        within = rw (left .1) (h .within);
-        same = rw (left .0, left .1);
-        nested = rw (left .0, left .1) (h .nested);
-        staysSettled = λ skips deep. is;
-        feeds = λ R ceiling store letters isTop. rw (left .0, left .1) (h .feeds book R ceiling store letters (rw isTop is));
-      }
+-- where passing over was left
+pub run-over : {k : ℕ} {r : Reading} {events : List ℕ} {from : ℕ} {run : PassedRun} (p : PassedTo)
+    → RunPassed k (r .taken) (r .skip) events from run → r .depth + r .skip ≤ r .taken
+    → (p .reading ≡ passedOn r (run .skip) (run .next - from)) × (p .next ≡ run .next)
+    → (book : List ℕ) (top : Level) → settled book r top ≡ true → PassesOver k book r top events from p
+unfolding passedOn
+run-over {k} {r} {events} {from} {run} p so nested left book top is =
+    let same : p .reading .skip ≡ run .skip = ap (λ (s : Reading). s .skip) (left .0) in
+    record {
+      further = rw (left .1) (so .further);
+      within = rw (left .1) (so .within);
+      same = rw (left .0, left .1);
+      nested = rw (left .0, left .1) (omega (arith, run-few so, so .further));
+      staysSettled = λ skips deep. is;
+      feeds = λ R ceiling store letters isTop.
+          let settles : settled book r (topOf r store) ≡ true = rw isTop is in
+          rw (left .0, left .1)
+          (ap (λ (s : Reading). feedBy (storeStep R book ceiling) (over s store) (drop from events)) (sym (on-none r))
+          ∙ run-passes (storeStep R book ceiling) k (r .taken) (λ skip n. over (passedOn r skip n) store)
+          (λ skip n e more known h.
+          pass-step R book ceiling (passedOn r skip n) store e (on-settled book r store skip n settles) more (rw letters known) h
+          ∙ ap (λ (s : Reading). given (over s store)) (on-more r skip _ n (n + 1) refl)) so);
+    }

@@ -20,7 +20,7 @@ use Rattle.turning.specs.declared.Going.{Going}
 use Rattle.turning.specs.declared.Advance.{Advance}
 
 -- what is left to come: what feeding the other events comes to, or the refusal
-unfoldable pub restOf : Feeding → Stored → Went Stored → Went Stored
+unfoldable pub restOf : {A : Type 0} → Feeding → A → Went A → Went A
 restOf feeding.AllTaken s w = w
 restOf (feeding.Refused f) s w = record { last = s; ended = refusalSays f }
 

@@ -7,7 +7,7 @@ use mathlib.Core.List.{List, [], _∷_}
 use lib.ListN.{length, take, drop}
 use Rattle.meaning.specs.Answers.{_=?_, _≤?_, if_then_else_}
 use Rattle.meaning.specs.RuleFile.{Rule}
-use Rattle.meaning.specs.FullReading.{feedBy}
+use Rattle.meaning.specs.FullReading.{mostEvents, feedBy}
 use Rattle.meaning.specs.Skipping.{settled}
 use Rattle.meaning.specs.Calls.{topOf, storeStep}
 use Rattle.meaning.specs.declared.Level.{Level}
@@ -17,6 +17,7 @@ use Rattle.turning.specs.declared.PassedTo.{PassedTo}
 use Rattle.turning.specs.declared.passing.Counts.{Counts}
 use Rattle.turning.specs.declared.passing.Depths.{Depths}
 use Rattle.turning.specs.declared.passing.Passed.{Passed}
+use Rattle.turning.specs.declared.passing.PassedRun.{PassedRun}
 
 -- how many trees an event opens, how many it closes, and one for an event that is unknown
 unfoldable pub openings : ℕ → ℕ
@@ -66,6 +67,14 @@ pub record PassedIn (known skip : ℕ) (events : List ℕ) (r : Passed) : Type 0
   pub within : r .count ≤ length events
   pub allKnown : total (unknowns known) (take (r .count) events) ≡ 0
   pub passing : Passing skip (take (r .count) events) (r .skip)
+
+-- a run of events from a place on, with so many taken before it: each is known and can be taken, and no close ends the level
+pub record RunPassed (k taken skip : ℕ) (events : List ℕ) (from : ℕ) (r : PassedRun) : Type 0 where
+  pub further : from ≤ r .next
+  pub within : r .next ≤ length events
+  pub limit : taken + (r .next - from) ≤ mostEvents
+  pub allKnown : total (unknowns (k + 2)) (take (r .next - from) (drop from events)) ≡ 0
+  pub passing : Passing skip (take (r .next - from) (drop from events)) (r .skip)
 
 -- so many events further, or where the events end
 pub record Ahead (from count end r : ℕ) : Type 0 where

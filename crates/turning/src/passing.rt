@@ -11,7 +11,7 @@ ghost use lib.ListN.{length};
 ghost use Rattle.meaning.specs.FullReading.{mostEvents};
 ghost use Rattle.meaning.specs.Skipping as skipping;
 ghost use Rattle.turning.specs.Turns.{Counted};
-ghost use Rattle.turning.specs.PassingOver.{openings, closings, CountsOf, oneMore, joined, DepthsOf, PassedIn, Ahead, passedOn, PassesOver};
+ghost use Rattle.turning.specs.PassingOver.{openings, closings, CountsOf, oneMore, joined, DepthsOf, PassedIn, RunPassed, Ahead, passedOn, PassesOver};
 
 // How many events are looked at together, and how many are looked at one by one before that: a short part is over by then.
 const BLOCK: usize = 256;
@@ -35,6 +35,12 @@ struct Depths {
 struct Passed {
     pub count: usize,
     pub skip: u32,
+}
+
+// Where a run was left that was passed over: the skip depth there, and the index of the next event.
+pub struct PassedRun {
+    pub skip: u32,
+    pub next: usize,
 }
 
 // How many trees an event opens.
@@ -246,14 +252,15 @@ fn left_at(reading: Reading, skip: u32, from: usize, next: usize) -> PassedTo
     }
 }
 
-// On a settled level events are taken by counting alone, up to the close that ends the level or an event that is refused.
-pub fn pass_over(letters: u16, reading: Reading, events: &[u16], from: usize) -> PassedTo
-    requires { ⌜ Counted reading ⌝ ∗ ⌜ letters ≤ 256 ⌝ ∗ ⌜ from ≤ length (now events) ⌝ }
-    ensures { λ r. ⌜ ((book : List ℕ) (top : Level) → skipping.settled book reading top ≡ true → PassesOver letters book reading top (now (events .entry)) from r) ⌝ }
+// From a skip depth, with so many events taken: events are taken by counting alone, up to the close that ends the level, an event that
+// is unknown or the event limit. It is asked of a level on which nothing else counts, whichever way of reading has found that.
+pub fn pass_run(letters: u16, taken: u32, start: u32, events: &[u16], from: usize) -> PassedRun
+    requires { ⌜ start ≤ taken ⌝ ∗ ⌜ letters ≤ 256 ⌝ ∗ ⌜ from ≤ length (now events) ⌝ }
+    ensures { λ r. ⌜ RunPassed letters taken start (now (events .entry)) from r ⌝ }
 {
     let known = letters + 2;
-    let end = last_event(reading.taken, from, events.len());
-    let mut skip = reading.skip;
+    let end = last_event(taken, from, events.len());
+    let mut skip = start;
     let mut i = from;
     let mut stop = ahead(i, FIRST, end);
     while i < end {
@@ -261,9 +268,18 @@ pub fn pass_over(letters: u16, reading: Reading, events: &[u16], from: usize) ->
         skip = passed.skip;
         i += passed.count;
         if i < stop {
-            return left_at(reading, skip, from, i);
+            return PassedRun { skip, next: i };
         }
         stop = ahead(i, BLOCK, end);
     }
-    left_at(reading, skip, from, i)
+    PassedRun { skip, next: i }
+}
+
+// On a settled level events are taken by counting alone, up to the close that ends the level or an event that is refused.
+pub fn pass_over(letters: u16, reading: Reading, events: &[u16], from: usize) -> PassedTo
+    requires { ⌜ Counted reading ⌝ ∗ ⌜ letters ≤ 256 ⌝ ∗ ⌜ from ≤ length (now events) ⌝ }
+    ensures { λ r. ⌜ ((book : List ℕ) (top : Level) → skipping.settled book reading top ≡ true → PassesOver letters book reading top (now (events .entry)) from r) ⌝ }
+{
+    let run = pass_run(letters, reading.taken, reading.skip, events, from);
+    left_at(reading, run.skip, from, run.next)
 }

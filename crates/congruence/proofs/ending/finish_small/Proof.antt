@@ -8,27 +8,26 @@ use Rattle.meaning.specs.RuleFile.{ruleOf}
 use Rattle.meaning.specs.SkipBook.{endMarks}
 use Rattle.meaning.specs.SetCalls.{notSetReading}
 use Rattle.meaning.proofs.rulefile.Accepted.{accepted-is-rule}
-use Rattle.book.specs.Sets.{Moves}
-use Rattle.book.proofs.EndSet.{all-found}
 use Rattle.book.proofs.Walked.{states-are}
+use Rattle.congruence.specs.MoveTables.{Moves}
 use Rattle.congruence.specs.Stores.{storeOf, endSays}
 use Rattle.congruence.proofs.Opens.{finish-out, finish-in}
 use Rattle.congruence.proofs.ending.finish_small.Statement.{statement}
 use Rattle.congruence.proofs.ending.finish_small.Tie as tie
 
-abbrev start-of : tie.After-tree-ends → tie.Start
+abbrev start-of : tie.After-ways-of → tie.Start
 start-of c = c .before .before .before .before
 
-tree-ends-requires : tie.Need-tree-ends-requires
-tree-ends-requires c κs = search needs
+ways-of-requires : tie.Need-ways-of-requires
+ways-of-requires c κs = search needs
 
 not-set-reading-requires : tie.Need-not-set-reading-requires
 not-set-reading-requires c κs = search needs
 
 -- the table of the moves
-found : (c : tie.After-tree-ends)
-    → Moves (ruleOf (now (start-of c .args .file))) (endMarks (ruleOf (now (start-of c .args .file)))) (c .tree-ends .result .moves)
-found c = all-found _ (accepted-is-rule _ (start-of c .pre .0 .accepted)) _ _ (c .tree-ends .ensures)
+found : (c : tie.After-ways-of)
+    → Moves (ruleOf (now (start-of c .args .file))) (endMarks (ruleOf (now (start-of c .args .file)))) (c .ways-of .result .moves)
+found c = c .ways-of .ensures .movesAre
 
 -- what the check of 13 says
 checked : (c : tie.After-not-set-reading)
@@ -58,4 +57,4 @@ returns-2 c =
 
 pub finish-small-spec : {M : Type 1} → statement M
 finish-small-spec =
-    tie.close (tie.spec tree-ends-requires not-set-reading-requires returns set-end-requires returns-2)
+    tie.close (tie.spec ways-of-requires not-set-reading-requires returns set-end-requires returns-2)

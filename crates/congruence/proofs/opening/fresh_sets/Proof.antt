@@ -9,20 +9,17 @@ use Rattle.meaning.specs.StateSets.{only}
 use Rattle.meaning.specs.SetTurns.{freshSets}
 use Rattle.meaning.proofs.rulefile.Accepted.{accepted-is-rule}
 use Rattle.book.proofs.Walked.{states-are}
-use Rattle.congruence.proofs.PairWords.{ends-are, initial-is, initial-low, only-word}
+use Rattle.congruence.proofs.PairWords.{initial-is, initial-low, only-word}
 use Rattle.congruence.proofs.opening.fresh_sets.Statement.{statement}
 use Rattle.congruence.proofs.opening.fresh_sets.Tie as tie
 
-tree-ends-requires : tie.Need-tree-ends-requires
-tree-ends-requires c κs = search needs
-
 top-relation-requires : tie.Need-top-relation-requires
 top-relation-requires c κs =
-    let pre = c .before .before .pre in
-    (pre .0, (pre .1, ends-are (accepted-is-rule _ (pre .0 .accepted)) _ _ (c .tree-ends .ensures)))
+    let pre = c .before .pre in
+    (pre .0, (pre .1 .0, pre .1 .1))
 
 only-requires : tie.Need-only-requires
-only-requires c κs = omega (arith, c .before .before .before .pre .1, initial-low (c .before .before .before .pre .0))
+only-requires c κs = omega (arith, c .before .before .pre .1 .0, initial-low (c .before .before .pre .0))
 
 narrow-requires : tie.Need-narrow-requires
 narrow-requires c κs = search needs
@@ -30,17 +27,17 @@ narrow-requires c κs = search needs
 returns : tie.Need-returns
 unfolding freshSets
 returns c =
-    let start = c .before .before .before .before .before in
+    let start = c .before .before .before .before in
     let ok = start .pre .0 in
     let R = ruleOf (now (start .args .file)) in
     let isSet : c .narrow .result ≡ only R (R .initial) =
     c .narrow .ensures
     ∙ only-word (accepted-is-rule _ (ok .accepted)) (start .args .rule .states) (start .args .rule .initial) (c .before .only .result) (states-are ok)
-    (start .pre .1) (initial-low ok) (c .before .only .ensures) (c .before .only .ok)
+    (start .pre .1 .0) (initial-low ok) (c .before .only .ensures) (c .before .only .ok)
     ∙ ap (only R) (sym (initial-is ok)) in
     rw (isSet, c .before .before .top-relation .ensures) refl
 
 pub fresh-sets-spec : {M : Type 1} → statement M
 fresh-sets-spec =
     tie.close
-    (tie.spec tree-ends-requires top-relation-requires only-requires narrow-requires returns)
+    (tie.spec top-relation-requires only-requires narrow-requires returns)

@@ -4,8 +4,10 @@
 use borrow.Author.Needs.{needs}
 use Prim.Native.Nat.{_<_, _≤_, _-_, _^_}
 use native.Mathlib.Omega.{arith}
-use Rattle.book.specs.Sets.{StandsFor, joined}
-use Rattle.congruence.proofs.SetWords.{Reaching, reaching-first, reaching-next, reaching-last, joined-more, more-bits}
+use Rattle.meaning.proofs.skipbook.Bits.{more-bits}
+use Rattle.book.specs.Sets.{StandsFor}
+use Rattle.congruence.specs.MoveTables.{joined}
+use Rattle.congruence.proofs.SetWords.{Reaching, reaching-first, reaching-next, reaching-last, joined-more}
 use Rattle.congruence.proofs.sets.reached.Statement.{statement}
 use Rattle.congruence.proofs.sets.reached.Tie as tie
 

@@ -9,7 +9,6 @@ use denote.Ref.{now}
 use borrow.Author.Tests.{le-leb}
 use Rattle.meaning.specs.RuleFile.{ruleOf}
 use Rattle.meaning.specs.StateSets.{treeStarts}
-use Rattle.meaning.specs.Differences.{lowerRelation}
 use Rattle.meaning.specs.SetTurns.{movingTurn}
 use Rattle.meaning.proofs.laws.Answered.{refuse-stops}
 use Rattle.rule.specs.Tables.{tableSays}
@@ -37,12 +36,6 @@ tree-start-requires c κs = search needs
 target-requires : tie.Need-target-requires
 target-requires c κs = search needs
 
-wide-requires : tie.Need-wide-requires
-wide-requires c κs = search needs
-
-lower-relation-requires : tie.Need-lower-relation-requires
-lower-relation-requires c κs = search needs
-
 add-look : tie.Need-add-look
 add-look c = search needs
 
@@ -54,21 +47,19 @@ starts c =
 
 look-requires : tie.Need-look-requires
 look-requires c κs =
-    let found = c .before .before .before .before .before in
+    let found = c .before in
     let pre = found .before .before .before .before .before .pre in
     (pre .1 .1 .1, rw (starts found) (starts-small (pre .0) (pre .1 .0)))
 
 returns-2 : tie.Need-returns-2
 returns-2 c top =
-    let found = c .before .before .before .before .before .before in
+    let found = c .before .before in
     let start = found .before .before .before .before .before in
     let args = start .args in
     let R = ruleOf (now (args .file)) in
-    let below = c .before .before .lower-relation .ensures
-    ∙ ap (λ (set : ℕ). lowerRelation R set (args .reading .relation)) (c .before .before .before .before .wide .ensures) in
     c .look .ensures
     ∙ (ap₂ (λ (n : ℕ) (rows : List ℕ). lookSays (args .ceiling) (args .reading) (tableSays TreeStart) n rows (args .reading .depth + 1) change.Stores)
-    (starts found) below
+    (starts found) (start .pre .1 .1 .0)
     ∙ sym (open-look R (args .room) (args .ceiling) (args .reading) top (found .before .before .if1 .left)))
 
 pub moving-open-spec : {M : Type 1} → statement M
@@ -80,8 +71,6 @@ moving-open-spec =
     returns
     tree-start-requires
     target-requires
-    wide-requires
-    lower-relation-requires
     add-look
     look-requires
     returns-2)

@@ -12,7 +12,9 @@ use Rattle.congruence.proofs.turns.moving_turn.Statement.{statement}
 use Rattle.congruence.proofs.turns.moving_turn.Tie as tie
 
 moving-open-requires : tie.Need-moving-open-requires
-moving-open-requires c κs = search needs
+moving-open-requires c κs =
+    let pre = c .before .before .pre in
+    (pre .0, (pre .1 .0, (pre .1 .1 .0 (c .if1 .taken), pre .1 .1 .1 .0)))
 
 returns : tie.Need-returns
 returns c =

@@ -53,7 +53,7 @@ moving-turn-requires : tie.Need-moving-turn-requires
 moving-turn-requires c κs =
     let pre = c .before .before .before .before .before .before .pre in
     let rest = pre .1 .1 .1 in
-    (pre .0, (pre .1 .0, (pre .1 .1 .0, (record { counted = rest .1 .0; more = omega (arith, c .before .before .if1 .left) }, (rest .1 .1, omega (arith, c .before .if2 .left))))))
+    (pre .0, (pre .1 .0, (pre .1 .1 .0 (c .if3 .left), (record { counted = rest .1 .0; more = omega (arith, c .before .before .if1 .left) }, (rest .1 .1, omega (arith, c .before .if2 .left))))))
 
 returns-4 : tie.Need-returns-4
 unfolding setEvent setTurn
