@@ -58,7 +58,7 @@ use Rattle.congruence.proofs.TurnLaws.{in-range-states}
 
 pub laid-none : (store : SetStore) (place : ℕ) (l : SetLevel) → setRoom store ≤ place → laidLevel store place l ≡ store
 unfolding laidLevel
-laid-none store place l past = if-false _ _ (le-ltb (setRoom store) place past)
+laid-none store place l past = if-false _ _ (le-ltb place (setRoom store) past)
 
 pub laid-one : (store : SetStore) (place : ℕ) (l : SetLevel) → place < setRoom store → laidLevel store place l ≡ putSetLevel store place l
 unfolding laidLevel
@@ -146,28 +146,37 @@ module _ (R : format.Rule) (ceiling : ℕ) (r : SetReading) (store : SetStore) (
 
   pub step-stays : turn .levels ≡ change.Stays → setStoreStep R ceiling (over r store) e ≡ given (over (turn .reading) store)
   unfolding setStoreStep storedAfterOf changeSays
-  step-stays is = giving-passes _ (said ∙ rw is refl)
+  step-stays is =
+      let says : changeSays r (turn .reading) (turn .levels) ≡ given (stays (turn .reading)) = rw is refl in
+      giving-passes _ (said ∙ says)
 
   pub step-ends : turn .levels ≡ change.Ends → setStoreStep R ceiling (over r store) e ≡ given (over (turn .reading) store)
   unfolding setStoreStep storedAfterOf changeSays
-  step-ends is = giving-passes _ (said ∙ rw is refl)
+  step-ends is =
+      let says : changeSays r (turn .reading) (turn .levels) ≡ given (ends (turn .reading)) = rw is refl in
+      giving-passes _ (said ∙ says)
 
   pub step-stores : turn .levels ≡ change.Stores
       → setStoreStep R ceiling (over r store) e ≡ given (over (turn .reading) (putSetLevel store (r .depth) (newSetLevel r)))
   unfolding setStoreStep storedAfterOf changeSays
-  step-stores is = giving-passes _ (said ∙ rw is refl)
+  step-stores is =
+      let says : changeSays r (turn .reading) (turn .levels) ≡ given (stores (newSetLevel r) (turn .reading)) = rw is refl in
+      giving-passes _ (said ∙ says)
 
   pub step-refuses : {number : ℕ} → turn .levels ≡ change.Refused number
       → setStoreStep R ceiling (over r store) e ≡ refused number (r .taken)
   unfolding setStoreStep changeSays
-  step-refuses is = giving-stops _ (said ∙ rw is refl)
+  step-refuses {number} is =
+      let says : changeSays r (turn .reading) (turn .levels) ≡ refused number (r .taken) = rw is refl in
+      giving-stops _ (said ∙ says)
 
 -- a level that is stored fits
 pub stores-fits : (R : format.Rule) (room ceiling : ℕ) (r : SetReading) (top : SetLevel) (e : ℕ) (turn : SetTurn)
     → setTurnSays r turn ≡ setEvent R room ceiling r top e → turn .levels ≡ change.Stores → r .depth < room
-unfolding setTurnSays changeSays newSetLevel
+unfolding setTurnSays changeSays
 stores-fits R room ceiling r top e turn says is =
-    fits (set-turned R room ceiling r top e (sym says ∙ rw is refl))
+    let stored : changeSays r (turn .reading) (turn .levels) ≡ given (stores (newSetLevel r) (turn .reading)) = rw is refl in
+    fits (set-turned R room ceiling r top e (sym says ∙ stored))
   where
     fits : {l : SetLevel} {r′ : SetReading} → SetTurned R room r top (stores l r′) → r .depth < room
     fits (storesOpen moves is some) = is
@@ -272,7 +281,7 @@ run-feeds R ceiling k r store events from run letters is so =
     (λ skip n e more known h. pass-step R ceiling (setPassedOn r skip n) store e is more (rw letters known) h
     ∙ ap (λ (s : SetReading). given (over s store)) (on-more r skip _ n)) so
 
-module _ {file : List ℕ} {rule : Rule} {r : SetReading} {events : List ℕ} {from : ℕ} {run : PassedRun}
+module _ (rule : Rule) (r : SetReading) {events : List ℕ} {from : ℕ} {run : PassedRun}
     (so : RunPassed (rule .letters) (r .taken) (r .skip) events from run) where
   abbrev left : SetReading
   left = setPassedOn r (run .skip) (run .next - from)
@@ -295,7 +304,7 @@ module _ {file : List ℕ} {rule : Rule} {r : SetReading} {events : List ℕ} {f
   unfolding setPassedOn setTopOf
   passed-top is deep = is deep
 
-  module _ {store : SetStore} (h : SetFeeds file rule r store) (is : stopped (ruleOf file) (r .set) (r .relation) ≡ true) where
+  module _ {file : List ℕ} {store : SetStore} (h : SetFeeds file rule r store) (is : stopped (ruleOf file) (r .set) (r .relation) ≡ true) where
     pub passed-feeds : SetFeeds file rule left store
     unfolding setPassedOn
     passed-feeds =

@@ -6,3 +6,4 @@ pub mod TurnLaws
 pub mod AllBelow
 pub mod Ends
 pub mod FeedTurns
+pub mod Laid

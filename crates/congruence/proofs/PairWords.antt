@@ -359,6 +359,11 @@ some-is {file} {rule} ok set test states =
     members-below (rule .states) set test (few-states ok) states
     ∙ ap (λ (n : ℕ). anyBelow n (λ m. bit set m && test m)) (sym (states-are ok))
 
+-- relations with the same 16 rows are the same
+pub same-rows : (one other : List ℕ) → length one ≡ 16 → length other ≡ 16 → SameRows one other → one ≡ other
+unfolding SameRows
+same-rows one other long long′ rows = ext-getD 0 one other (long ∙ sym long′) (λ x h. rows x (omega arith))
+
 -- ---- the states in which a tree can end, as they are found
 
 pub ends-are : (R : Rule) (set : ℕ) → set ≡ wordOf (endMarks R) → EndsAre R set

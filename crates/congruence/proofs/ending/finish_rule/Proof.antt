@@ -2,13 +2,13 @@
 use borrow.Author.Needs.{needs}
 use mathlib.Core.Path.{sym}
 use Rattle.congruence.specs.Stores.{endSays}
-use Rattle.congruence.proofs.Opens.{finish-many}
+use Rattle.congruence.proofs.Opens.{check-many, finish-refused}
 use Rattle.congruence.proofs.ending.finish_rule.Statement.{statement}
 use Rattle.congruence.proofs.ending.finish_rule.Tie as tie
 
 returns : tie.Need-returns
 unfolding endSays
-returns c = sym (finish-many (c .before .before .before .before .before .pre) _ _ (c .if1 .taken))
+returns c = sym (finish-refused _ _ _ (check-many (c .before .before .before .before .before .pre) _ _ (c .if1 .taken)))
 
 finish-small-requires : tie.Need-finish-small-requires
 finish-small-requires c κs = search needs

@@ -11,7 +11,7 @@ use Rattle.meaning.proofs.rulefile.Accepted.{accepted-is-rule}
 use Rattle.book.proofs.Walked.{states-are}
 use Rattle.congruence.specs.MoveTables.{Moves}
 use Rattle.congruence.specs.Stores.{storeOf, endSays}
-use Rattle.congruence.proofs.Opens.{finish-out, finish-in}
+use Rattle.congruence.proofs.Opens.{check-out, finish-refused, finish-in}
 use Rattle.congruence.proofs.ending.finish_small.Statement.{statement}
 use Rattle.congruence.proofs.ending.finish_small.Tie as tie
 
@@ -43,7 +43,7 @@ returns : tie.Need-returns
 unfolding endSays
 returns c =
     let s = start-of (c .before .before .before .before) in
-    sym (finish-out (s .pre .0) (s .pre .1) _ _ (sym (checked (c .before)) ∙ c .if1 .taken))
+    sym (finish-refused _ _ _ (check-out (s .pre .0) (s .pre .1) _ _ (sym (checked (c .before)) ∙ c .if1 .taken)))
 
 set-end-requires : tie.Need-set-end-requires
 set-end-requires c κs =

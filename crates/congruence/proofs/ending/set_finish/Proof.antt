@@ -3,7 +3,7 @@ use borrow.Author.Needs.{needs}
 use mathlib.Core.Path.{sym}
 use Rattle.rule.proofs.Said.{refused-check}
 use Rattle.congruence.specs.Stores.{endSays}
-use Rattle.congruence.proofs.Opens.{ruled-by, finish-unchecked}
+use Rattle.congruence.proofs.Opens.{ruled-by, check-unchecked, finish-refused}
 use Rattle.congruence.proofs.ending.set_finish.Statement.{statement}
 use Rattle.congruence.proofs.ending.set_finish.Tie as tie
 
@@ -25,7 +25,8 @@ returns : tie.Need-returns
 unfolding endSays
 returns c =
     let came = c .before .refusal .given in
-    sym (finish-unchecked _ _ _ (refused-check _ (came .0 .0) (rw (came .1) at (c .before .before .before .of-file .ensures))))
+    sym (finish-refused _ _ _ (check-unchecked _ _ _
+    (refused-check _ (came .0 .0) (rw (came .1) at (c .before .before .before .of-file .ensures)))))
 
 returns-2 : tie.Need-returns-2
 returns-2 c = search needs
