@@ -300,9 +300,9 @@ module _ (rule : Rule) (r : SetReading) {events : List ℕ} {from : ℕ} {run : 
   unfolding setPassedOn
   passed-stands s = record { allIs = s .allIs; stillIs = s .stillIs }
 
-  pub passed-top : {store : SetStore} {top : SetLevel} → (0 < r .depth → top ≡ setTopOf r store) → 0 < left .depth → top ≡ setTopOf left store
+  pub passed-top : (store : SetStore) {top : SetLevel} → (0 < r .depth → top ≡ setTopOf r store) → 0 < left .depth → top ≡ setTopOf left store
   unfolding setPassedOn setTopOf
-  passed-top is deep = is deep
+  passed-top store is deep = is deep
 
   module _ {file : List ℕ} {store : SetStore} (h : SetFeeds file rule r store) (is : stopped (ruleOf file) (r .set) (r .relation) ≡ true) where
     pub passed-feeds : SetFeeds file rule left store

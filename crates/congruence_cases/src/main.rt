@@ -53,6 +53,14 @@ fn document(name: &[u8], file: &[u8], events: &[u16]) {
     lines::document(name, end);
 }
 
+// The same over one level.
+fn in_one_level(name: &[u8], file: &[u8], events: &[u16]) {
+    let mut words = [0u16; 17];
+    let mut places = [0u32; 1];
+    let end = set_read_document(file, &mut words, &mut places, events);
+    lines::document(name, end);
+}
+
 // Figure 12: 0 2 0 3, then so many times 0 2 1, then 1 1.
 fn many_children() {
     let mut events = [0u16; 1206];
@@ -70,6 +78,7 @@ fn many_children() {
     let file = rules::figure_12();
     read(b"figure 12, 400 children", &file, MOST, &events);
     document(b"figure 12 in one call", &file, &events);
+    in_one_level(b"figure 12 over one level", &file, &events);
 }
 
 fn examples() {
@@ -85,9 +94,24 @@ fn examples() {
     let b = rules::rule_b();
     read(b"B1", &b, MOST, &[0, 2, 1]);
     let sixteen = rules::figure_16();
-    read(b"figure 16, a tree with a letter", &sixteen, MOST, &[0, 2, 1]);
-    read(b"figure 16, a tree and a letter", &sixteen, MOST, &[0, 1, 2]);
-    read(b"figure 16, a letter after its tree", &sixteen, MOST, &[0, 2, 1, 2]);
+    read(
+        b"figure 16, a tree with a letter",
+        &sixteen,
+        MOST,
+        &[0, 2, 1],
+    );
+    read(
+        b"figure 16, a tree and a letter",
+        &sixteen,
+        MOST,
+        &[0, 1, 2],
+    );
+    read(
+        b"figure 16, a letter after its tree",
+        &sixteen,
+        MOST,
+        &[0, 2, 1, 2],
+    );
     document(b"figure 16 in one call", &sixteen, &[0, 1, 2]);
     let many = rules::too_many_states();
     read(b"17 states", &many, MOST, &[]);

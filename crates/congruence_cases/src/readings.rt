@@ -52,13 +52,22 @@ pub fn refusals() {
     feed(b"a pair that is not mirrored", reading(1, 0), 9, &[]);
     feed(b"more levels than the store", counts(2, 0, 2, 0), 9, &[]);
     feed(b"an empty stored set", counts(1, 0, 1, 0), 9, &[]);
-    feed(b"skipping on a level that is not stopped", counts(0, 1, 1, 0), 9, &[]);
+    feed(
+        b"skipping on a level that is not stopped",
+        counts(0, 1, 1, 0),
+        9,
+        &[],
+    );
     feed(b"more levels than events", counts(0, 2, 1, 0), 9, &[]);
     feed(b"more looks than events", counts(0, 0, 1, 2), 9, &[]);
     feed(b"a close at the top", reading(1, 32), 9, &[1]);
     feed(b"an unknown letter", reading(1, 32), 9, &[3]);
-    feed(b"a full store", counts(0, 0, 1, 0), 9, &[0, 1, 0, 0]);
     feed(b"the ceiling", reading(1, 32), 0, &[2]);
-    feed(b"no letter move", reading(2, 32), 9, &[2]);
-    feed(b"all events taken already", counts(0, 0, 4294967295, 0), 9, &[2]);
+    feed(b"no letter move", reading(40, 32), 9, &[2]);
+    feed(
+        b"all events taken already",
+        counts(0, 0, 4294967295, 0),
+        9,
+        &[2],
+    );
 }

@@ -18,11 +18,11 @@ enum-known-ended c = search needs
 
 returns : tie.Need-returns
 unfolding feedingSays _giving_
-returns c = ?
+returns c = rw (c .before .before .enum-told .given .1) (c .set-end .ensures)
 
 returns-2 : tie.Need-returns-2
 unfolding feedingSays _giving_ refusalSays endSays
-returns-2 c = ?
+returns-2 c = rw (c .before .ended .given .1) refl
 
 pub end-fed-spec : {M : Type 1} → statement M
 end-fed-spec = tie.close (tie.spec enum-told set-end-requires enum-known-ended returns returns-2)

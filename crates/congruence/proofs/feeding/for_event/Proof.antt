@@ -5,7 +5,7 @@ use Rattle.congruence.proofs.feeding.for_event.Statement.{statement}
 use Rattle.congruence.proofs.feeding.for_event.Tie as tie
 
 returns : tie.Need-returns
-returns c = (search needs, λ zero. absurd (omega (arith, c .if1 .taken, zero)))
+returns c = (c .before .before .pre .1 .1 .1 .1, λ zero. absurd (omega (arith, c .if1 .taken, zero)))
 
 recall-requires : tie.Need-recall-requires
 recall-requires c κs = search needs

@@ -20,10 +20,10 @@ same-requires c κs = search needs
 
 returns-3 : tie.Need-returns-3
 returns-3 c e R remembers =
-    let s = c .before .before .before .before .before .before in
+    let s = c .before .before .before .before .before .before .before in
     let sameSet : s .args .memory .set ≡ s .args .set = c .before .before .before .if2 .left in
     let sameRows = same-rows (s .args .memory .above) (now (s .args .relation)) (remembers .long) (s .pre) (c .same .ensures e) in
-    remembers .isBelow (not-false-true (c .before .before .before .before .if1 .left)) ∙ ap₂ (lowerRelation R) sameSet sameRows
+    remembers .isBelow (not-false-true (c .before .before .before .before .before .if1 .left)) ∙ ap₂ (lowerRelation R) sameSet sameRows
 
 pub has-spec : {M : Type 1} → statement M
 has-spec = tie.close (tie.spec returns returns-2 same-requires returns-3)

@@ -15,7 +15,9 @@ has-requires : tie.Need-has-requires
 has-requires c κs = search needs
 
 returns : tie.Need-returns
-returns c = (search needs, c .before .has .ensures (c .if1 .taken) _ (search needs))
+returns c =
+    let right = c .before .before .before .before .pre .1 .1 .1 .1 in
+    (right, c .before .has .ensures (c .if1 .taken) _ right)
 
 wide-requires : tie.Need-wide-requires
 wide-requires c κs = search needs
@@ -25,8 +27,8 @@ lower-relation-requires c κs = search needs
 
 returns-2 : tie.Need-returns-2
 returns-2 c =
-    let is = rw (c .before .wide .ensures) at (c .lower-relation .ensures) in
-    (record { long = search needs; belowLong = ap length is ∙ lower-long _ _ _; isBelow = λ _. is }, is)
+    let is = rw (c .before .before .wide .ensures) at (c .lower-relation .ensures) in
+    (record { long = c .before .before .before .before .before .before .before .pre .1 .1 .1 .0; belowLong = ap length is ∙ lower-long _ _ _; isBelow = λ _. is }, is)
 
 pub recall-spec : {M : Type 1} → statement M
 recall-spec =
