@@ -362,6 +362,12 @@ module _ (rule : Rule) (r : SetReading) {events : List ℕ} {from : ℕ} {run : 
 
 -- ---- turn by turn
 
+-- where none was refused, what is left to come is what feeding the other events comes to
+pub rest-on : (R : format.Rule) (ceiling : ℕ) (store : SetStore) (events : List ℕ) (g : SetGoing) → g .ended ≡ feeding.AllTaken
+    → setRest R ceiling store events g ≡ feedBy (setStoreStep R ceiling) (over (g .reading) store) (drop (g .next) events)
+unfolding setRest restOf
+rest-on R ceiling store events g e = rw (e, restOf)
+
 -- no event is left
 pub gone : (file : List ℕ) (rule : Rule) (ceiling : ℕ) (store : SetStore) (events : List ℕ) (g : SetGoing) {w : Went SetStored} {start : SetReading}
     → setRest (ruleOf file) ceiling store events g ≡ w → start .taken ≤ g .reading .taken → SetCanGoOn file rule store events g

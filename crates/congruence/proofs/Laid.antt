@@ -4,8 +4,8 @@ use mathlib.Core.List.{List, [], _∷_, _++_, append-assoc}
 use Prim.Native.Nat.{ℕ, _+_, _*_, _≤_, _<_}
 use native.Mathlib.Numerals.{add-one}
 use native.Mathlib.Omega.{arith}
-use lib.ListN.{length, getD, set, take, drop}
-use lib.Seq.{paste, paste-suc, take-length, take-suc-set, drop-set-lt}
+use lib.ListN.{length, getD, set, take, drop, length-append, length-drop}
+use lib.Seq.{paste, paste-suc, take-length, length-take-le, take-suc-set, drop-set-lt}
 use Rattle.meaning.specs.SetCalls.{SetStore, putSetLevel}
 use Rattle.meaning.specs.declared.sets.SetLevel.{SetLevel}
 use Rattle.congruence.specs.Stores.{storeOf}
@@ -22,6 +22,12 @@ rows-laid words rows first long =
     let all : take 16 rows ≡ rows = ap (λ (n : ℕ). take n rows) (sym long) ∙ take-length rows in
     append-assoc (take first words) (take 16 rows) (drop (first + 16) words)
     ∙ ap (λ (l : List ℕ). take first words ++ (l ++ drop (first + 16) words)) all
+
+-- as many words as there were
+pub rows-long : (words rows : List ℕ) (first : ℕ) → first + 16 ≤ length words → length rows ≡ 16
+    → length (take first words ++ (rows ++ drop (first + 16) words)) ≡ length words
+rows-long words rows first room long =
+    simp (length-append, length-drop) (omega (arith, length-take-le first words (omega arith), length-drop (first + 16) words))
 
 -- the set, and then the rows after it
 pub level-laid : (words rows : List ℕ) (at x : ℕ) → at + 17 ≤ length words
