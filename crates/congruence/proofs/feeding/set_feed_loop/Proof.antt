@@ -32,7 +32,10 @@ loop-less : tie.Need-loop-less Inv-loop μ-loop
 loop-less c = search needs
 
 loop-again : tie.Need-loop-again Inv-loop μ-loop
-loop-again c = search needs
+loop-again c =
+    let l = c .before .before .before .before .before .before .before .before .before .loop in
+    let t = c .before .before .before .before .set-turn .ensures in
+    (t .1 .0, t .1 .1 ∙ l .inv .1, omega (arith, t .0 .1, l .inv .2), omega (arith, l .inv .3), omega (arith, l .inv .3))
 
 same-length : tie.Need-same-length Inv-loop μ-loop
 same-length c = search needs
@@ -41,7 +44,9 @@ same-length-2 : tie.Need-same-length-2 Inv-loop μ-loop
 same-length-2 c = search needs
 
 returns : tie.Need-returns Inv-loop μ-loop
-returns c = search needs
+returns c =
+    let l = c .before .before .loop in
+    gone _ _ _ _ _ (l .at) (l .inv .1) (l .inv .2) (l .inv .0) (omega (arith, c .if1 .left))
 
 pub set-feed-loop-spec : {M : Type 1} → statement M
 set-feed-loop-spec =
