@@ -7,3 +7,4 @@ pub mod AllBelow
 pub mod Ends
 pub mod FeedTurns
 pub mod Laid
+pub mod OneOutcome

@@ -16,12 +16,9 @@ use Rattle.meaning.specs.declared.Refusal.{Refusal}
 use Rattle.meaning.specs.declared.Feeding.the-variants as feeding
 use Rattle.meaning.specs.declared.sets.SetReading.{SetReading}
 use Rattle.meaning.proofs.laws.Answered.{giving-passes, giving-stops, refuse-passes, refuse-stops}
-use Rattle.meaning.proofs.rulefile.Accepted.{accepted-rule}
 use Rattle.meaning.proofs.congruence.PromiseCalls.{whole-refused, whole-opened}
 use Rattle.rule.specs.declared.Rule.{Rule}
-use Rattle.rule.specs.declared.Checked.the-variants as checked
-use Rattle.rule.specs.Says.{RuleOf, checkedSays, checkAnswer}
-use Rattle.rule.proofs.Said.{fine-accepted}
+use Rattle.rule.specs.Says.{RuleOf}
 use Rattle.book.proofs.Walked.{states-are}
 use Rattle.turning.specs.Advancing.{restOf}
 use Rattle.congruence.specs.Stores.{endSays}
@@ -29,13 +26,6 @@ use Rattle.congruence.specs.Feeding.{over, setRest, SetStarts, SetFeeds,
 use Rattle.congruence.specs.declared.feeding.SetGoing.{SetGoing}
 use Rattle.congruence.specs.declared.ending.SetEnd.{SetEnd}
 use Rattle.congruence.specs.declared.ending.SetEnd.the-variants as end
-
--- the rule check gave these numbers: they are the accepted file's
-pub ruled-by : (file : List ℕ) (rule : Rule) → checkedSays (checked.Fine rule) ≡ checkAnswer file → RuleOf file rule
-ruled-by file rule e =
-    let f = fine-accepted file rule e in
-    let same = accepted-rule file (f .1) in
-    record { accepted = rw same (f .1); numbers = rw same (f .2) }
 
 -- the rule check refused
 pub small-unchecked : (file : List ℕ) {number place : ℕ} → checkRule file ≡ refused number place → smallRule file ≡ refused number place

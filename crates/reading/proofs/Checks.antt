@@ -22,7 +22,7 @@ use Rattle.rule.specs.Says.{numbersOf, checkedSays, checkAnswer, RuleOf}
 use Rattle.rule.specs.declared.Rule.{Rule}
 use Rattle.rule.specs.declared.Checked.{Checked}
 use Rattle.rule.specs.declared.Checked.the-variants as checked
-use Rattle.rule.proofs.Said.{fine-accepted, giving-refused}
+use Rattle.rule.proofs.Said.{giving-refused}
 use Rattle.turning.specs.Turns.{Feeds}
 use Rattle.reading.specs.Feeding.{FedIs, fedOf}
 use Rattle.turning.specs.Advancing.{rest, restOf, startOf, CanGoOn, Gone}
@@ -30,15 +30,6 @@ use Rattle.turning.specs.declared.Going.{Going}
 use Rattle.reading.specs.Checks.{ruleIn, readingAnswer}
 use Rattle.turning.proofs.Steps.{turn-ready}
 use Rattle.turning.proofs.Turned.{states-are}
-
--- ---- the rule
-
--- the rule check gave these numbers: they are the accepted file's
-pub ruled-by : (file : List ℕ) (rule : Rule) → checkedSays (checked.Fine rule) ≡ checkAnswer file → RuleOf file rule
-ruled-by file rule e =
-    let f = fine-accepted file rule e in
-    let same = accepted-rule file (f .1) in
-    record { accepted = rw same (f .1); numbers = rw same (f .2) }
 
 -- ---- the answer, one law for each way it goes
 

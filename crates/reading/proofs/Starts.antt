@@ -17,12 +17,11 @@ use Rattle.rule.specs.declared.Rule.{Rule}
 use Rattle.rule.specs.declared.Checked.{Checked}
 use Rattle.rule.specs.declared.Checked.the-variants as checked
 use Rattle.rule.specs.Says.{checkedSays, checkAnswer}
-use Rattle.rule.proofs.Said.{refused-check}
+use Rattle.rule.proofs.Said.{ruled-by, refused-check}
 use Rattle.turning.specs.Advancing.{startOf}
 use Rattle.turning.specs.declared.Going.{Going}
 use Rattle.reading.specs.Checks.{ruleIn}
 use Rattle.reading.specs.Whole.{openedReading, checkOpened, Begins}
-use Rattle.reading.proofs.Checks.{ruled-by}
 
 -- the reading that opening gave
 pub first-is : (x : Opened) {o : Opening} → openedSays x ≡ given o → openedReading x ≡ o .reading

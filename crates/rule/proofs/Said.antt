@@ -10,6 +10,7 @@ use Rattle.meaning.specs.RuleFile.{checkRule}
 use Rattle.meaning.specs.Calls.{refusalSays}
 use Rattle.meaning.specs.declared.Refusal.{Refusal}
 use Rattle.meaning.proofs.laws.Answered.{giving-given}
+use Rattle.meaning.proofs.rulefile.Accepted.{accepted-rule}
 use Rattle.meaning.proofs.stores.OneAnswer.{refusal-says}
 use Rattle.rule.specs.declared.Rule.{Rule}
 use Rattle.rule.specs.declared.Checked.{Checked}
@@ -19,7 +20,7 @@ use Rattle.rule.specs.declared.Written.the-variants as written
 use Rattle.rule.specs.declared.tables.Table.{Table}
 use Rattle.rule.specs.declared.tables.Table.the-variants as table
 use Rattle.rule.specs.Tables.{tableSays}
-use Rattle.rule.specs.Says.{numbersOf, checkedSays, checkAnswer, writtenSays}
+use Rattle.rule.specs.Says.{numbersOf, RuleOf, checkedSays, checkAnswer, writtenSays}
 
 -- a rule that was given is the accepted file's
 pub fine-accepted : (file : List ℕ) (rule : Rule) → checkedSays (checked.Fine rule) ≡ checkAnswer file
@@ -28,6 +29,13 @@ unfolding checkedSays checkAnswer
 fine-accepted file rule e =
     let g = giving-given (checkRule file) (λ R. given (numbersOf R)) (sym e) in
     (g .0, g .1, cc (g .2))
+
+-- with its numbers
+pub ruled-by : (file : List ℕ) (rule : Rule) → checkedSays (checked.Fine rule) ≡ checkAnswer file → RuleOf file rule
+ruled-by file rule e =
+    let f = fine-accepted file rule e in
+    let same = accepted-rule file (f .1) in
+    record { accepted = rw same (f .1); numbers = rw same (f .2) }
 
 pub giving-refused : {A B : Type 0} (x : Answer A) (f : A → Answer B) (number place : ℕ)
     → ((a : A) → (b : B) × (f a ≡ given b)) → (x giving f) ≡ refused number place → x ≡ refused number place

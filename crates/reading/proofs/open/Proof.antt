@@ -6,8 +6,7 @@ use denote.Ref.{now}
 use Rattle.meaning.specs.Calls.{refusalSays, openedSays}
 use Rattle.meaning.proofs.skipbook.BookMade.{after-refused}
 use Rattle.meaning.proofs.stores.Opens.{open-unchecked}
-use Rattle.rule.proofs.Said.{refused-check}
-use Rattle.reading.proofs.Checks.{ruled-by}
+use Rattle.rule.proofs.Said.{ruled-by, refused-check}
 use Rattle.reading.proofs.open.Statement.{statement}
 use Rattle.reading.proofs.open.Tie as tie
 

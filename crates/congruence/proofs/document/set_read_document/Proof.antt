@@ -1,8 +1,8 @@
 -- `congruence::document::set_read_document` meets its contract: what the rule check refused, or the document with an accepted rule.
 -- Assumes nothing.
 use borrow.Author.Needs.{needs}
-use Rattle.rule.proofs.Said.{refused-check}
-use Rattle.congruence.proofs.Opens.{ruled-by, open-unchecked, read-refused}
+use Rattle.rule.proofs.Said.{ruled-by, refused-check}
+use Rattle.congruence.proofs.Opens.{open-unchecked, read-refused}
 use Rattle.congruence.proofs.document.set_read_document.Statement.{statement}
 use Rattle.congruence.proofs.document.set_read_document.Tie as tie
 

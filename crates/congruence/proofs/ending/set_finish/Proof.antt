@@ -1,9 +1,9 @@
 -- `congruence::ending::set_finish` meets its contract: what the rule check refused, or the finish with an accepted rule. Assumes nothing.
 use borrow.Author.Needs.{needs}
 use mathlib.Core.Path.{sym}
-use Rattle.rule.proofs.Said.{refused-check}
+use Rattle.rule.proofs.Said.{ruled-by, refused-check}
 use Rattle.congruence.specs.Stores.{endSays}
-use Rattle.congruence.proofs.Opens.{ruled-by, check-unchecked, finish-refused}
+use Rattle.congruence.proofs.Opens.{check-unchecked, finish-refused}
 use Rattle.congruence.proofs.ending.set_finish.Statement.{statement}
 use Rattle.congruence.proofs.ending.set_finish.Tie as tie
 

@@ -1,7 +1,7 @@
 -- `congruence::feeding::set_feed` meets its contract: what the rule check refused, or the feed with an accepted rule. Assumes nothing.
 use borrow.Author.Needs.{needs}
-use Rattle.rule.proofs.Said.{refused-check}
-use Rattle.congruence.proofs.Opens.{ruled-by, check-unchecked, not-fed-is}
+use Rattle.rule.proofs.Said.{ruled-by, refused-check}
+use Rattle.congruence.proofs.Opens.{check-unchecked, not-fed-is}
 use Rattle.congruence.proofs.feeding.set_feed.Statement.{statement}
 use Rattle.congruence.proofs.feeding.set_feed.Tie as tie
 

@@ -2,9 +2,9 @@
 use borrow.Author.Needs.{needs}
 use mathlib.Core.Path.{_≡_, sym, ap, _∙_}
 use denote.Ref.{now}
-use Rattle.rule.proofs.Said.{refused-check}
+use Rattle.rule.proofs.Said.{ruled-by, refused-check}
 use Rattle.congruence.specs.Opens.{setOpening}
-use Rattle.congruence.proofs.Opens.{ruled-by, open-unchecked}
+use Rattle.congruence.proofs.Opens.{open-unchecked}
 use Rattle.congruence.proofs.opening.set_open.Statement.{statement}
 use Rattle.congruence.proofs.opening.set_open.Tie as tie
 

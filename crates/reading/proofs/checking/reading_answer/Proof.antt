@@ -8,9 +8,9 @@ use native.Mathlib.Omega.{arith}
 use Rattle.meaning.specs.Calls.{refusalSays}
 use Rattle.meaning.specs.declared.Level.{Level}
 use Rattle.rule.specs.Says.{checkedSays, checkAnswer, RuleOf}
-use Rattle.rule.proofs.Said.{refused-check}
+use Rattle.rule.proofs.Said.{ruled-by, refused-check}
 use Rattle.reading.specs.Checks.{ruleIn, Seen}
-use Rattle.reading.proofs.Checks.{ruled-by, answer-rule, answer-short, answer-unread, answer-fine}
+use Rattle.reading.proofs.Checks.{answer-rule, answer-short, answer-unread, answer-fine}
 use Rattle.turning.proofs.Turned.{few-states}
 use Rattle.reading.proofs.checking.reading_answer.Statement.{statement}
 use Rattle.reading.proofs.checking.reading_answer.Tie as tie
