@@ -1,9 +1,11 @@
 //! The runs of `crates/congruence_cases`: the second reading answers what the
 //! program has to print.
 
+use reader::calls::open;
 use reader::congruence::*;
+use reader::hedge::feed as feed_events;
 use reader::numbers::Refusal;
-use reader::reading::Outcome;
+use reader::reading::{Level, Outcome};
 use reader::writer::lay_record;
 use reader::Class;
 
@@ -102,17 +104,47 @@ fn feed(name: &str, first: SetReading, ceiling: u32, events: &[u16]) -> String {
     format!("{name} {answer}\n")
 }
 
+fn figure_12() -> Vec<u8> {
+    bytes(concat!(
+        "05000000010007000002000e00000002000102ffffffffffffffffffffffff310000000300ff05050606ffffff",
+        "01030103ffffff02040204ffffff03030303ffffff04040404ffffffffffffffffffffffffffffffff07000000",
+        "040000000000000102",
+    ))
+}
+
+/// Figure 12's document with so many children.
+fn children(count: usize) -> Vec<u16> {
+    let mut events = vec![0, 2, 0, 3];
+    events.extend([0, 2, 1].repeat(count));
+    events.extend([1, 1]);
+    events
+}
+
+/// The looks of document 02's benchmark: by this way, by the old one and in full.
+#[test]
+fn the_looks_of_figure_12() {
+    let (file, events) = (figure_12(), children(6_000));
+    let first = set_open(&file).unwrap();
+    let sets = set_feed(&file, first, &mut [SetLevel::default(); 8], &events, MOST);
+    let old = |book: &[u64]| {
+        let first = open(&file, &mut [0; 8]).unwrap().reading;
+        feed_events(&file, book, first, &mut [Level::default(); 8], &events, MOST).reading.looks
+    };
+    let mut book = [0; 8];
+    open(&file, &mut book).unwrap();
+    assert_eq!([events.len() as u32, sets.reading.looks], [18_006, 6]);
+    assert_eq!([old(&book), old(&[0; 8])], [12_006, 18_006]);
+}
+
 #[test]
 fn the_program_prints_what_the_second_reading_answers() {
     let two = bytes("0500000001000200010100020000000200000004000000030001ff00010200000004000102");
-    let stopped = bytes("05000000010002000001000200000002000000040000000300000100000200000004000001");
-    let rejects = bytes("05000000010002000101000200000002000000040000000300000100000200000004000001");
+    let stopped =
+        bytes("05000000010002000001000200000002000000040000000300000100000200000004000001");
+    let rejects =
+        bytes("05000000010002000101000200000002000000040000000300000100000200000004000001");
     let none = bytes("050000000100020000010002000000020001ff040000000300ffffffff0200000004000201");
-    let twelve = bytes(
-        "05000000010007000002000e00000002000102ffffffffffffffffffffffff310000000300ff05050606ffffff\
-         01030103ffffff02040204ffffff03030303ffffff04040404ffffffffffffffffffffffffffffffff07000000\
-         040000000000000102",
-    );
+    let twelve = figure_12();
     let b = of_one_letter(3, &[(0, 2), (1, 2), (2, 2)], &[(0, 2, 0)], &[2, 0, 1]);
     let sixteen = figure_16();
     let mut many = Vec::new();
@@ -120,9 +152,7 @@ fn the_program_prints_what_the_second_reading_answers() {
     lay_record(&mut many, 2, &[0; 17]);
     lay_record(&mut many, 3, &[0; 289]);
     lay_record(&mut many, 4, &[0; 17]);
-    let mut children = vec![0, 2, 0, 3];
-    children.extend([0, 2, 1].repeat(400));
-    children.extend([1, 1]);
+    let children = children(400);
     let lines = [
         read("two looks", &two, MOST, &[0, 1]),
         read("stopped at once", &stopped, MOST, &[]),
