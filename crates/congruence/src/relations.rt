@@ -409,8 +409,8 @@ pub fn lower_relation(
     requires { ⌜ EndsAre (ruleOf (now file)) lowers ⌝ }
     ensures { λ r. ⌜ r ≡ lowerRelation (ruleOf (now (file .entry))) set (now (relation .entry)) ⌝ }
 {
-    let start = relation_of(Kind::Lower, file, rule, lowers, set, relation);
-    least(file, rule, lowers, start)
+    let led = relation_of(Kind::Lower, file, rule, lowers, set, relation);
+    least(file, rule, lowers, led)
 }
 
 // The relation of an opened level that was made last, with the set and the relation that it was made of: levels that are opened one
