@@ -152,7 +152,7 @@ fn the_program_prints_what_the_second_reading_answers() {
     lay_record(&mut many, 2, &[0; 17]);
     lay_record(&mut many, 3, &[0; 289]);
     lay_record(&mut many, 4, &[0; 17]);
-    let children = children(400);
+    let children = children(3);
     let lines = [
         read("two looks", &two, MOST, &[0, 1]),
         read("stopped at once", &stopped, MOST, &[]),
@@ -166,7 +166,7 @@ fn the_program_prints_what_the_second_reading_answers() {
         document("figure 16 in one call", &sixteen, &[0, 1, 2]),
         read("17 states", &many, MOST, &[]),
         document("17 states in one call", &many, &[]),
-        read("figure 12, 400 children", &twelve, MOST, &children),
+        read("figure 12, three children", &twelve, MOST, &children),
         document("figure 12 in one call", &twelve, &children),
         over(&mut [SetLevel::default()], "figure 12 over one level", &twelve, &children),
         feed("a set, its relation", reading(1, 32), 9, &[]),

@@ -61,22 +61,11 @@ fn in_one_level(name: &[u8], file: &[u8], events: &[u16]) {
     lines::document(name, end);
 }
 
-// Figure 12: 0 2 0 3, then so many times 0 2 1, then 1 1.
-fn many_children() {
-    let mut events = [0u16; 1206];
-    events[1] = 2;
-    events[3] = 3;
-    let mut i: usize = 4;
-    while i < 1204 {
-        events[i] = 0;
-        events[i + 1] = 2;
-        events[i + 2] = 1;
-        i += 3;
-    }
-    events[1204] = 1;
-    events[1205] = 1;
+// Figure 12: what follows the item in its list is passed over.
+fn children() {
     let file = rules::figure_12();
-    read(b"figure 12, 400 children", &file, MOST, &events);
+    let events = [0u16, 2, 0, 3, 0, 2, 1, 0, 2, 1, 0, 2, 1, 1, 1];
+    read(b"figure 12, three children", &file, MOST, &events);
     document(b"figure 12 in one call", &file, &events);
     in_one_level(b"figure 12 over one level", &file, &events);
 }
@@ -120,6 +109,6 @@ fn examples() {
 
 fn main() {
     examples();
-    many_children();
+    children();
     readings::refusals();
 }
