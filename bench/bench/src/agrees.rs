@@ -28,11 +28,11 @@ fn feeding(rng: &mut Prng) {
     );
     assert_eq!(expected, found);
 
-    if let Ok(fresh) = reader::fresh(file) {
-        let zeros = [0; 65];
+    let zeros = [0; 65];
+    if let Ok(opening) = reader::open(file, &mut zeros.clone()) {
         let (mut expected, mut found) = (call.store.clone(), call.store);
         assert_eq!(
-            reader::feed(file, &zeros, fresh, &mut expected, events, u32::MAX),
+            reader::feed(file, &zeros, opening.reading, &mut expected, events, u32::MAX),
             plain::read_in_full(file, &mut found, events)
         );
         assert_eq!(expected, found);
@@ -49,8 +49,8 @@ fn rule_files(rng: &mut Prng) {
     let length = rng.pick(&[3, 64, 65, 66]);
     let mut books = [(); 3].map(|()| vec![7; length]);
     let [expected, by_words, by_marks] = &mut books;
-    let made = reader::make_book(&file, expected);
-    assert_eq!(made, plain::make_book_by_words(&file, by_words));
-    assert_eq!(made, plain::make_book_by_marks(&file, by_marks));
+    let opened = reader::open(&file, expected);
+    assert_eq!(opened, plain::open_by_words(&file, by_words));
+    assert_eq!(opened, plain::open_by_marks(&file, by_marks));
     assert!(expected == by_words && expected == by_marks);
 }

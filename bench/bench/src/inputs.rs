@@ -30,7 +30,7 @@ pub fn mixing(n: usize, k: usize) -> Rule {
 }
 
 /// A letter leads from each state to the next, so that Reach and the set of the
-/// tree start, state 0, are as long as they can be and every round of the maker
+/// tree start, state 0, are as long as they can be and every round of opening
 /// but the last adds a state.
 pub fn chain(n: usize, k: usize) -> Rule {
     let mut rng = rng();

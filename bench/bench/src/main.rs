@@ -60,20 +60,16 @@ fn calls_for(size: usize) -> usize {
     (1_000_000 / size).max(1)
 }
 
-fn fresh_reading(rule: &Rule) -> Reading {
-    Reading { state: rule.initial as u8, depth: 0, skip: 0, taken: 0, looks: 0 }
-}
-
-/// The linked feed from a fresh reading, in the second reading's words.
+/// The linked feed from the reading that opening gave, in the second reading's words.
 fn feed_linked(
     file: &[u8],
     book: &[u64],
-    fresh: Reading,
+    first: Reading,
     store: &mut Store,
     events: &[u16],
 ) -> Fed {
     let mut answer = [0; ANSWER];
-    assert!(host::feed(file, book, LARGEST, fresh, store, events, &mut answer));
+    assert!(host::feed(file, book, LARGEST, first, store, events, &mut answer));
     let [number, place, took, state, depth, skip, taken, looks] = answer;
     let counts = [depth, skip, taken, looks].map(|count| count as u32);
     let [depth, skip, taken, looks] = counts;
@@ -85,7 +81,7 @@ fn feed_linked(
     Fed { took: took as usize, reading, outcome }
 }
 
-/// Full reading: a book of zeros.
+/// Full reading: opened, and fed with a book of zeros.
 fn full_reading() -> Vec<Full> {
     let mut rows = Vec::new();
     let small = inputs::mixing(16, 16);
@@ -99,18 +95,18 @@ fn full_reading() -> Vec<Full> {
     for (name, rule, generate) in cases {
         let file = rule.to_file();
         let zeros = vec![0; rule.n + 1];
-        let fresh = fresh_reading(rule);
+        let first = reader::open(&file, &mut zeros.clone()).expect("a good rule").reading;
         for size in SIZES {
             let events = generate(rule.k, size);
             let levels = vec![Level::default(); 64];
             let mut linked = Store::new(&levels);
             let (mut plainly, mut alone) = (levels.clone(), levels);
 
-            let expected = stream::feed(&file, &zeros, fresh, &mut plainly, &events, LARGEST);
+            let expected = stream::feed(&file, &zeros, first, &mut plainly, &events, LARGEST);
             assert_eq!(expected.outcome, Outcome::AllTaken);
             assert_eq!(expected.reading.looks as usize, size);
-            assert_eq!(feed_linked(&file, &zeros, fresh, &mut linked, &events), expected);
-            let fed = plain::feed(&file, &zeros, fresh, &mut plainly, &events, LARGEST);
+            assert_eq!(feed_linked(&file, &zeros, first, &mut linked, &events), expected);
+            let fed = plain::feed(&file, &zeros, first, &mut plainly, &events, LARGEST);
             assert_eq!(fed, expected);
             assert_eq!(plain::read_in_full(&file, &mut alone, &events), expected);
 
@@ -119,11 +115,11 @@ fn full_reading() -> Vec<Full> {
                 calls_for(size),
                 [
                     &mut || {
-                        feed_linked(&file, &zeros, fresh, &mut linked, &events).reading.looks as u64
+                        feed_linked(&file, &zeros, first, &mut linked, &events).reading.looks as u64
                     },
                     &mut || {
                         let store = &mut plainly;
-                        let fed = plain::feed(&file, &zeros, fresh, store, &events, LARGEST);
+                        let fed = plain::feed(&file, &zeros, first, store, &events, LARGEST);
                         fed.reading.looks as u64
                     },
                     &mut || plain::read_in_full(&file, &mut alone, &events).reading.looks as u64,
@@ -137,15 +133,14 @@ fn full_reading() -> Vec<Full> {
     rows
 }
 
-/// Passing over: the maker's book, and the same events in full.
+/// Passing over: the book that opening fills, and the same events in full.
 fn passing_over() -> Vec<Passing> {
     let mut rows = Vec::new();
     let rule = inputs::settling(16, 16);
     let file = rule.to_file();
     let zeros = vec![0; rule.n + 1];
     let mut book = zeros.clone();
-    reader::make_book(&file, &mut book).expect("a good rule");
-    let fresh = fresh_reading(&rule);
+    let first = reader::open(&file, &mut book).expect("a good rule").reading;
     type Events = fn(usize, usize) -> Vec<u16>;
     let cases: [(&'static str, Events); 3] = [
         ("letters only", inputs::letters),
@@ -159,31 +154,31 @@ fn passing_over() -> Vec<Passing> {
             let (mut linked, mut linked_full) = (Store::new(&levels), Store::new(&levels));
             let mut plainly = levels;
 
-            let expected = stream::feed(&file, &book, fresh, &mut plainly, &events, LARGEST);
+            let expected = stream::feed(&file, &book, first, &mut plainly, &events, LARGEST);
             assert_eq!(expected.outcome, Outcome::AllTaken);
             assert_eq!(expected.reading.looks, 1);
-            assert_eq!(feed_linked(&file, &book, fresh, &mut linked, &events), expected);
-            let fed = plain::feed(&file, &book, fresh, &mut plainly, &events, LARGEST);
+            assert_eq!(feed_linked(&file, &book, first, &mut linked, &events), expected);
+            let fed = plain::feed(&file, &book, first, &mut plainly, &events, LARGEST);
             assert_eq!(fed, expected);
-            let full = stream::feed(&file, &zeros, fresh, &mut plainly, &events, LARGEST);
+            let full = stream::feed(&file, &zeros, first, &mut plainly, &events, LARGEST);
             assert_eq!(full.outcome, Outcome::AllTaken);
             assert_eq!(full.reading.looks as usize, size);
-            assert_eq!(feed_linked(&file, &zeros, fresh, &mut linked_full, &events), full);
+            assert_eq!(feed_linked(&file, &zeros, first, &mut linked_full, &events), full);
 
             let [proved, full, safe, sum] = least(
                 REPETITIONS,
                 calls_for(size),
                 [
                     &mut || {
-                        feed_linked(&file, &book, fresh, &mut linked, &events).reading.taken as u64
+                        feed_linked(&file, &book, first, &mut linked, &events).reading.taken as u64
                     },
                     &mut || {
                         let store = &mut linked_full;
-                        feed_linked(&file, &zeros, fresh, store, &events).reading.taken as u64
+                        feed_linked(&file, &zeros, first, store, &events).reading.taken as u64
                     },
                     &mut || {
                         let store = &mut plainly;
-                        let fed = plain::feed(&file, &book, fresh, store, &events, LARGEST);
+                        let fed = plain::feed(&file, &book, first, store, &events, LARGEST);
                         fed.reading.taken as u64
                     },
                     &mut || plain::sum(&events),
@@ -196,23 +191,24 @@ fn passing_over() -> Vec<Passing> {
     rows
 }
 
-/// The maker and the rule check, at the most states and letters.
+/// Opening and the rule check, at the most states and letters.
 fn single_calls() -> Vec<Call> {
     let mut rows = Vec::new();
     for (name, rule) in [
-        ("the maker, Reach in one round", inputs::mixing(64, 256)),
-        ("the maker, Reach in 63 rounds", inputs::chain(64, 256)),
+        ("opening, Reach in one round", inputs::mixing(64, 256)),
+        ("opening, Reach in 63 rounds", inputs::chain(64, 256)),
     ] {
         let file = rule.to_file();
         let mut expected = vec![0; 65];
-        let still = reader::make_book(&file, &mut expected).expect("a good rule");
+        let opening = reader::open(&file, &mut expected).expect("a good rule");
         let mut books = [(); 3].map(|()| vec![0; 65]);
         let mut answer = [0; ANSWER];
         let [linked, words, marks] = &mut books;
-        assert!(host::make_book(&file, linked, &mut answer));
-        assert_eq!(answer[..3], [0, 0, still as u64]);
-        assert_eq!(plain::make_book_by_words(&file, words), Ok(still));
-        assert_eq!(plain::make_book_by_marks(&file, marks), Ok(still));
+        assert!(host::open(&file, linked, &mut answer));
+        let (still, state) = (opening.still as u64, opening.reading.state as u64);
+        assert_eq!(answer, [0, 0, still, state, 0, 0, 0, 0]);
+        assert_eq!(plain::open_by_words(&file, words), Ok(opening));
+        assert_eq!(plain::open_by_marks(&file, marks), Ok(opening));
         assert!([&*linked, words, marks].iter().all(|book| **book == expected));
 
         let [proved, by_words, by_marks, sum] = least(
@@ -220,11 +216,15 @@ fn single_calls() -> Vec<Call> {
             20,
             [
                 &mut || {
-                    host::make_book(&file, linked, &mut answer);
+                    host::open(&file, linked, &mut answer);
                     answer[2]
                 },
-                &mut || plain::make_book_by_words(&file, words).unwrap_or(0) as u64,
-                &mut || plain::make_book_by_marks(&file, marks).unwrap_or(0) as u64,
+                &mut || {
+                    plain::open_by_words(&file, words).map_or(0, |opening| opening.still as u64)
+                },
+                &mut || {
+                    plain::open_by_marks(&file, marks).map_or(0, |opening| opening.still as u64)
+                },
                 &mut || plain::sum_bytes(&file),
             ],
         );

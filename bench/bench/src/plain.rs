@@ -1,5 +1,5 @@
 //! Plain safe Rust with the same answers: tables in vectors, one event after the
-//! other, the maker with a vector of marks or with words. Written as one would
+//! other, opening with a vector of marks or with words. Written as one would
 //! without a proof in mind, and checked against the second reading before anything
 //! is measured.
 //!
@@ -7,7 +7,7 @@
 //! for full reading is measured against it. [`read_in_full`] has less to do and is
 //! there for information.
 
-use reader::{Fed, Level, Outcome, Reading, Refusal};
+use reader::{Fed, Level, Opening, Outcome, Reading, Refusal};
 
 /// A rule in flat tables.
 pub struct Table {
@@ -212,7 +212,7 @@ fn is_reading(table: &Table, book: &[u64], reading: &Reading, store: &[Level]) -
     nesting <= reading.taken as u64 && reading.looks <= reading.taken
 }
 
-/// Full reading alone, from a fresh reading and with no book in sight: what one
+/// Full reading alone, from the first event and with no book in sight: what one
 /// would write who never skips.
 pub fn read_in_full(file: &[u8], store: &mut [Level], events: &[u16]) -> Fed {
     let fed = |took, state, depth, outcome| Fed {
@@ -275,8 +275,14 @@ fn tree_ends(table: &Table) -> Vec<bool> {
     ends
 }
 
-/// The maker over a vector of marks for each state.
-pub fn make_book_by_marks(file: &[u8], book: &mut [u64]) -> Result<u32, Refusal> {
+/// What opening gives: the fresh reading and the still count.
+fn opening(table: &Table, still: u32) -> Opening {
+    let reading = Reading { state: table.initial, depth: 0, skip: 0, taken: 0, looks: 0 };
+    Opening { reading, still }
+}
+
+/// Opening, its book over a vector of marks for each state.
+pub fn open_by_marks(file: &[u8], book: &mut [u64]) -> Result<Opening, Refusal> {
     let table = Table::from_file(file)?;
     let n = table.n;
     if book.len() < n + 1 {
@@ -310,11 +316,12 @@ pub fn make_book_by_marks(file: &[u8], book: &mut [u64]) -> Result<u32, Refusal>
     for u in 0..n {
         book[1 + u] = (0..n).filter(|&p| holds(u, p)).map(|p| 1 << p).sum();
     }
-    Ok(book[0].count_ones())
+    Ok(opening(&table, book[0].count_ones()))
 }
 
-/// The maker over a word for each state: rounds of `or` until none adds a state.
-pub fn make_book_by_words(file: &[u8], book: &mut [u64]) -> Result<u32, Refusal> {
+/// Opening, its book over a word for each state: rounds of `or` until none adds a
+/// state.
+pub fn open_by_words(file: &[u8], book: &mut [u64]) -> Result<Opening, Refusal> {
     let table = Table::from_file(file)?;
     let n = table.n;
     if book.len() < n + 1 {
@@ -348,7 +355,7 @@ pub fn make_book_by_words(file: &[u8], book: &mut [u64]) -> Result<u32, Refusal>
             .fold(0u64, |set, low| set | 1 << low);
         book[1 + u] = (0..n).filter(|&p| reach[p] & changes == 0).map(|p| 1 << p).sum();
     }
-    Ok(book[0].count_ones())
+    Ok(opening(&table, book[0].count_ones()))
 }
 
 /// The memory limit: each event is read and added up.

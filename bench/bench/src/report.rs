@@ -169,8 +169,8 @@ impl Report {
         let times_sum =
             1.0 / least(deep.iter().map(|row| row.sum / row.proved).collect::<Vec<f64>>());
         let times_full = least(deep.iter().map(|row| row.full / row.proved).collect());
-        let makers = self.calls.iter().filter(|row| row.name.starts_with("the maker"));
-        let maker = makers.map(|row| row.proved).fold(0.0, f64::max) / 1_000_000.0;
+        let openings = self.calls.iter().filter(|row| row.name.starts_with("opening"));
+        let opening = openings.map(|row| row.proved).fold(0.0, f64::max) / 1_000_000.0;
         vec![
             (
                 "full reading at least as fast as the safe Rust",
@@ -187,7 +187,7 @@ impl Report {
                 format!("{times_full:.1} times as fast"),
                 times_full >= 20.0,
             ),
-            ("the maker under 1 ms at n 64 and k 256", format!("{maker:.3} ms"), maker < 1.0),
+            ("opening under 1 ms at n 64 and k 256", format!("{opening:.3} ms"), opening < 1.0),
         ]
     }
 }

@@ -7,14 +7,14 @@
 //! too.
 
 use crate::disagreements;
-use crate::tally::{Can, Tally, FEED, FINISH, MAKER, RULE, WHOLE, WRITER};
+use crate::tally::{Can, Tally, FEED, FINISH, OPEN, RULE, WHOLE, WRITER};
 use generate::calls::{random_call, random_writing, Call, Writing};
 use generate::damage::damaged;
 use generate::rules::random_rule;
 use generate::{Inputs, Prng};
 use host::{Store, Tables, ANSWER};
 use reader::check::take_apart;
-use reader::{End, Fed, Level, Outcome, Reading, Refusal, Rule};
+use reader::{End, Fed, Level, Opening, Outcome, Reading, Refusal, Rule};
 use std::fmt::Debug;
 use std::time::Instant;
 
@@ -52,6 +52,10 @@ fn numbers<T>(answer: Result<T, Refusal>, values: impl Fn(T) -> Vec<u64>) -> Vec
 fn reading_values(reading: Reading) -> Vec<u64> {
     let counts = [reading.depth, reading.skip, reading.taken, reading.looks];
     [vec![reading.state as u64], counts.map(u64::from).to_vec()].concat()
+}
+
+fn opening_values(opening: Opening) -> Vec<u64> {
+    [vec![opening.still as u64], reading_values(opening.reading)].concat()
 }
 
 fn fed_numbers(fed: Fed) -> Vec<u64> {
@@ -112,23 +116,44 @@ impl Comparison<'_> {
         self.same("rule check", RULE, &(file, held), expected, found)
     }
 
-    fn fresh(&mut self, file: &[u8], held: &[u64]) -> Result<(), String> {
-        let expected = Left::by(numbers(reader::fresh(file), reading_values), held);
-        let mut answer = held.to_vec();
-        let fitted = host::fresh(file, &mut answer);
-        let found = Left { fitted, answer, ..Left::default() };
-        self.same("fresh", RULE, &(file, held), expected, found)
+    fn open(&mut self, file: &[u8], book: &[u64], held: &[u64]) -> Result<(), String> {
+        let mut words = book.to_vec();
+        let opened = reader::open(file, &mut words);
+        let expected = Left { book: words, ..Left::by(numbers(opened, opening_values), held) };
+        let (mut book_after, mut answer) = (book.to_vec(), held.to_vec());
+        let fitted = host::open(file, &mut book_after, &mut answer);
+        let found = Left { fitted, answer, book: book_after, ..Left::default() };
+        self.same("open", OPEN, &(file, book, held), expected, found)
     }
 
-    fn make_book(&mut self, file: &[u8], book: &[u64], held: &[u64]) -> Result<(), String> {
-        let mut words = book.to_vec();
-        let made = reader::make_book(file, &mut words);
-        let expected =
-            Left { book: words, ..Left::by(numbers(made, |still| vec![still as u64]), held) };
-        let (mut book_after, mut answer) = (book.to_vec(), held.to_vec());
-        let fitted = host::make_book(file, &mut book_after, &mut answer);
-        let found = Left { fitted, answer, book: book_after, ..Left::default() };
-        self.same("maker", MAKER, &(file, book, held), expected, found)
+    /// Opened, fed and finished by the linked calls alone, each with what the one
+    /// before it gave: as the whole document, which leaves the same.
+    fn calls_in_turn(&mut self, call: &Call, book: &[u64]) -> Result<(), String> {
+        let (file, held) = (&call.rule_file, [0; ANSWER]);
+        let (mut words, mut store) = (book.to_vec(), call.store.clone());
+        let end = reader::whole(file, &mut words, &mut store, &call.events);
+        let expected = Left { book: words, store, ..Left::by(end_numbers(end), &held) };
+
+        let (mut book_after, mut lent, mut answer) = (book.to_vec(), Store::new(&call.store), held);
+        host::open(file, &mut book_after, &mut answer);
+        if answer[0] == 0 {
+            let (first, events) = (reading_of(&answer), &call.events);
+            answer = held;
+            host::feed(file, &book_after, u32::MAX, first, &mut lent, events, &mut answer);
+            if answer[0] == 0 {
+                let last = reading_of(&answer);
+                answer = held;
+                host::finish(file, &book_after, last, &lent, &mut answer);
+            }
+        }
+        // What feeding laid after a refusal's number and place is not the document's.
+        if answer[0] != 0 {
+            answer[2..].fill(0);
+        }
+        let answer = answer.to_vec();
+        let store = lent.levels();
+        let found = Left { fitted: true, answer, book: book_after, store, ..Left::default() };
+        self.same("open, feed, finish", WHOLE, &(call, book), expected, found)
     }
 
     fn write_rule(&mut self, writing: &Writing, output: &[u8], held: &[u64]) -> Result<(), String> {
@@ -226,9 +251,10 @@ impl Comparison<'_> {
         let held = random_held(&mut rng);
         self.feed_and_finish(&call, &held)?;
         self.split_feeds(&call, &random_parts(&mut rng, &call.events))?;
-        self.fresh(&call.rule_file, &held)?;
         let book = random_words(&mut rng, call.book.len());
+        self.open(&call.rule_file, &book, &held)?;
         self.read_document(&call, &book, &held)?;
+        self.calls_in_turn(&call, &book)?;
 
         let rule = random_rule(&mut rng);
         let good = rule.to_file();
@@ -237,7 +263,7 @@ impl Comparison<'_> {
         let words = rng.weighted(&[(70, rule.n + 1), (10, rule.n), (10, rule.n + 4), (10, 66)]);
         let book = random_words(&mut rng, words);
         let file = if rng.chance(95) { rule.to_file() } else { file };
-        self.make_book(&file, &book, &held)?;
+        self.open(&file, &book, &held)?;
 
         let writing = random_writing(&mut rng);
         let output: Vec<u8> = (0..writing.room).map(|_| rng.word() as u8).collect();
@@ -254,13 +280,14 @@ impl Comparison<'_> {
             let call = Call {
                 rule_file: parts.rule_file.to_vec(),
                 book: vec![0; parts.rule.n + 1],
-                reading: reader::fresh(parts.rule_file).expect("the rule was checked"),
+                reading: reader::open(parts.rule_file, &mut [0; 65]).expect("a good rule").reading,
                 store: vec![Level::default(); 1024],
                 events: parts.events,
                 ceiling: u32::MAX,
             };
             self.feed_and_finish(&call, &[0; ANSWER])?;
             self.read_document(&call, &call.book, &[0; ANSWER])?;
+            self.calls_in_turn(&call, &call.book)?;
         }
         Ok(())
     }
@@ -295,7 +322,7 @@ fn feed_linked(
     Left { fitted, answer, store: lent.levels(), ..Left::default() }
 }
 
-/// The reading in the answer of a feed.
+/// The reading in the answer of opening or of a feed: both have a count before it.
 fn reading_of(answer: &[u64]) -> Reading {
     Reading {
         state: answer[3] as u8,

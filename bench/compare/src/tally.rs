@@ -7,7 +7,7 @@ pub type Can = &'static [u64];
 
 pub const RULE: Can = &[1, 2, 3, 4, 5];
 pub const WRITER: Can = &[3, 4, 14];
-pub const MAKER: Can = &[1, 2, 3, 4, 5, 6];
+pub const OPEN: Can = &[1, 2, 3, 4, 5, 6];
 pub const FEED: Can = &[1, 2, 3, 4, 5, 6, 7, 8, 9, 10, 11, 13, 16, 17, 18];
 pub const FINISH: Can = &[1, 2, 3, 4, 5, 6, 12, 13];
 pub const WHOLE: Can = &[1, 2, 3, 4, 5, 6, 7, 8, 10, 11, 12, 17, 18];
@@ -17,8 +17,9 @@ pub const LINE: Can = &[7, 8, 10, 11, 12, 17, 18];
 const NEVER: &str = "\
 -: that call does not give the number.
 15: no call does. Both sets begin with one state at most, of at most 64, so the 64th round adds none.
-9, 13, 16: a whole document and a program read from a fresh reading with the largest ceiling,
-    and 4,294,967,296 events are more than a program's record holds and than are asked here.";
+9, 13, 16: a whole document and a program read from the reading that opening gives, under the
+    largest ceiling, and 4,294,967,296 events are more than a program's record holds and than are
+    asked here.";
 
 /// From so many inputs on, every number that can be given must have been.
 const ENOUGH: u64 = 10_000;

@@ -79,7 +79,7 @@ fn random_level(rng: &mut Prng, n: usize) -> Level {
     Level { state, place: rng.word() as u32 }
 }
 
-/// The maker's book, one of zeros, one with bits changed, or any words at all;
+/// The rule's own book, one of zeros, one with bits changed, or any words at all;
 /// longer than needed at times, or too short.
 fn random_book(rng: &mut Prng, rule: &Rule, sets: &Book) -> Vec<u64> {
     let made = sets.words();

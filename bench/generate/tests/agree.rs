@@ -267,8 +267,8 @@ fn sets_in_rounds() {
     check(&by_trees);
     assert_eq!(most, (63, 63));
     let mut book = [0; 65];
-    assert_eq!(make_book(&by_letters.to_file(), &mut book), Ok(1));
-    assert_eq!(make_book(&by_trees.to_file(), &mut book), Ok(0));
+    let mut still = |rule: &Rule| open(&rule.to_file(), &mut book).map(|opening| opening.still);
+    assert_eq!((still(&by_letters), still(&by_trees)), (Ok(1), Ok(0)));
 }
 
 /// The book with L2's lower states has at least the bits of the one with any:
@@ -307,8 +307,8 @@ fn a_passed_over_part_may_be_exchanged() {
         // part that follows up to a place of the same kind on that level.
         let mut store = vec![Level::default(); 300];
         let start = rng.below(events.len() + 1);
-        let before =
-            feed(&file, &book, fresh(&file).unwrap(), &mut store, &events[..start], LARGEST);
+        let first = open(&file, &mut [0; 65]).unwrap().reading;
+        let before = feed(&file, &book, first, &mut store, &events[..start], LARGEST);
         let now = before.reading;
         let state_bit = |word: u64| word >> now.state & 1 == 1;
         let upper = now.depth.checked_sub(1).map(|d| store[d as usize].state as usize);

@@ -53,18 +53,11 @@ mod exported {
             answer_length: usize,
         ) -> bool;
 
-        pub fn venticapro_make_book(
+        pub fn venticapro_open(
             file: *const u8,
             file_length: usize,
             book: *mut u64,
             book_length: usize,
-            answer: *mut u64,
-            answer_length: usize,
-        ) -> bool;
-
-        pub fn venticapro_fresh(
-            file: *const u8,
-            file_length: usize,
             answer: *mut u64,
             answer_length: usize,
         ) -> bool;
@@ -107,11 +100,12 @@ pub fn write_rule(tables: Tables, output: &mut [u8], answer: &mut [u64]) -> bool
     }
 }
 
-/// The maker. Value: how many states are still.
-pub fn make_book(file: &[u8], book: &mut [u64], answer: &mut [u64]) -> bool {
+/// Opening, which fills the book. Values: how many states are still, then the fresh
+/// reading: state, stored depth, skip depth, events taken, looks.
+pub fn open(file: &[u8], book: &mut [u64], answer: &mut [u64]) -> bool {
     // SAFETY: see the head of this file.
     unsafe {
-        exported::venticapro_make_book(
+        exported::venticapro_open(
             file.as_ptr(),
             file.len(),
             book.as_mut_ptr(),
@@ -119,13 +113,5 @@ pub fn make_book(file: &[u8], book: &mut [u64], answer: &mut [u64]) -> bool {
             answer.as_mut_ptr(),
             answer.len(),
         )
-    }
-}
-
-/// A fresh reading. Values: state, stored depth, skip depth, events taken, looks.
-pub fn fresh(file: &[u8], answer: &mut [u64]) -> bool {
-    // SAFETY: see the head of this file.
-    unsafe {
-        exported::venticapro_fresh(file.as_ptr(), file.len(), answer.as_mut_ptr(), answer.len())
     }
 }

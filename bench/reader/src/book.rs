@@ -1,6 +1,5 @@
-//! The skip book and its maker.
+//! The skip book.
 
-use crate::numbers::{self, Refusal};
 use crate::rule::Rule;
 use std::collections::BTreeSet;
 
@@ -88,17 +87,4 @@ impl Book {
         let word = |set: &BTreeSet<usize>| set.iter().map(|&p| 1u64 << p).sum();
         std::iter::once(word(&self.still)).chain(self.hold.iter().map(word)).collect()
     }
-}
-
-/// The maker: writes the book and returns how many states are still. In turn:
-/// rule, 6, 15 (never given, see [`numbers::ROUNDS`]). Words past n+1 stay; a
-/// refused call leaves the book untouched.
-pub fn make_book(rule_file: &[u8], book: &mut [u64]) -> Result<u32, Refusal> {
-    let rule = Rule::from_file(rule_file)?;
-    if book.len() < rule.n + 1 {
-        return Err(Refusal::new(numbers::BOOK_SHORT, 0));
-    }
-    let words = Book::of(&rule).words();
-    book[..words.len()].copy_from_slice(&words);
-    Ok(words[0].count_ones())
 }

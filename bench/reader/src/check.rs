@@ -1,10 +1,8 @@
 //! The check program's behaviour.
 
-use crate::book::make_book;
-use crate::calls::{report_by, Feed};
+use crate::calls::{open, report_from, Feed};
 use crate::hedge;
 use crate::numbers::{self, Refusal};
-use crate::reading::Report;
 use crate::rule::{record, Required, Rule};
 
 /// The levels for each reading.
@@ -43,12 +41,13 @@ pub fn check_program_by(feed: Feed, input: &[u8]) -> String {
     };
     let zeros = vec![0; parts.rule.n + 1];
     let mut book = zeros.clone();
-    let report =
-        |book: &[u64]| report_by(feed, parts.rule_file, book, LEVELS, &parts.events, u32::MAX);
-    let skip = match make_book(parts.rule_file, &mut book) {
-        Ok(_) => report(&book),
-        Err(refusal) => Report::Refused(refusal),
+    let (file, events) = (parts.rule_file, &parts.events);
+    let first = match open(file, &mut book) {
+        Ok(opening) => opening.reading,
+        Err(refusal) => return format!("skip {refusal}\nfull {refusal}\n"),
     };
+    let report = |book: &[u64]| report_from(first, feed, file, book, LEVELS, events, u32::MAX);
+    let skip = report(&book);
     let full = report(&zeros);
     format!("skip {skip}\nfull {full}\n")
 }

@@ -9,7 +9,7 @@
 //!   with programs and calls is compared by this way, which has nothing of the
 //!   structure of a streaming reader;
 //! * [`stream`]: event by event, as "Calls and numbers" tells it;
-//! * [`positions`]: full reading from a fresh start as a table over the places,
+//! * [`positions`]: full reading from the first event as a table over the places,
 //!   "passed over" marked by its definition, and skipping predicted from the
 //!   marks.
 
@@ -26,8 +26,8 @@ pub mod rule;
 pub mod stream;
 pub mod writer;
 
-pub use book::{make_book, Book};
-pub use calls::{finish, fresh, whole};
+pub use book::Book;
+pub use calls::{finish, open, whole, Opening};
 pub use check::check_program;
 pub use hedge::feed;
 pub use numbers::Refusal;

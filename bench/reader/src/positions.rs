@@ -4,14 +4,14 @@
 //! event there and the open of the level that event stands on. The levels
 //! outside are found by following the opens outwards. From this table "passed
 //! over" is marked by its definition, and the marks alone foretell what skipping
-//! with the maker's book will answer.
+//! with the rule's own book will answer.
 
 use crate::book::Book;
 use crate::numbers::{self, Refusal};
 use crate::reading::{Report, CLOSE, FIRST_LETTER, OPEN};
 use crate::rule::Rule;
 
-/// A full reading from a fresh start, without want of levels or looks.
+/// A full reading from the first event, without want of levels or looks.
 pub struct FullRun<'a> {
     rule: &'a Rule,
     events: &'a [u16],
@@ -125,7 +125,7 @@ impl<'a> FullRun<'a> {
         self.predict(&every_event, levels, ceiling).expect("every event of full reading looks")
     }
 
-    /// What skipping with the maker's book answers, as far as it follows from the
+    /// What skipping with the rule's own book answers, as far as it follows from the
     /// full reading: unknown (`None`) once full reading finds no move at an event
     /// passed over, unless skipping is refused before.
     pub fn predict_skip(&self, book: &Book, levels: usize, ceiling: u32) -> Option<Report> {

@@ -15,7 +15,7 @@ fn book_of(rule_file: &[u8]) -> Vec<u64> {
     Book::of(&Rule::from_file(rule_file).unwrap()).words()
 }
 
-/// Both ways of skipping with the maker's book; they must agree.
+/// Both ways of skipping with the rule's own book; they must agree.
 fn skip(rule_file: &[u8], levels: usize, ceiling: u32, events: &[u16]) -> String {
     let book = book_of(rule_file);
     let streamed = report_by(feed, rule_file, &book, levels, events, ceiling);
@@ -98,11 +98,19 @@ fn books() {
     assert_eq!(book_of(&no_start), [3, 2, 2]);
     assert_eq!(book_of(&met_later().to_file()), [4, 4, 0, 7]);
     let mut book = [99; 6];
-    assert_eq!(make_book(&RULE_A, &mut book), Ok(2));
+    let reading = Reading { state: 0, depth: 0, skip: 0, taken: 0, looks: 0 };
+    assert_eq!(open(&RULE_A, &mut book), Ok(Opening { reading, still: 2 }));
     assert_eq!(book, [6, 4, 7, 7, 99, 99]);
     let mut short = [99; 3];
-    assert_eq!(make_book(&RULE_A, &mut short), Err(Refusal::new(6, 0)));
+    assert_eq!(open(&RULE_A, &mut short), Err(Refusal::new(6, 0)));
     assert_eq!(short, [99; 3]);
+    assert_eq!(open(&RULE_A[..46], &mut short), Err(Refusal::new(1, 46)));
+    assert_eq!(short, [99; 3]);
+    // The initial state is the rule's own, and the book does not depend on it.
+    let mut another = RULE_A;
+    another[7] = 1;
+    let first = open(&another, &mut book).map(|opening| opening.reading.state);
+    assert_eq!((first, book), (Ok(1), [6, 4, 7, 7, 99, 99]));
 }
 
 #[test]

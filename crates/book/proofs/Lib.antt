@@ -1,4 +1,4 @@
--- The laws that the proofs of the maker cite: sets as words, the tables walked, rounds, the set of the tree start, the words of
+-- The laws that the proofs of the making cite: sets as words, the tables walked, rounds, the set of the tree start, the words of
 -- the book, the answers.
 pub mod Standing
 pub mod Walked

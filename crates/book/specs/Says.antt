@@ -1,4 +1,4 @@
--- The number and the values of each case of the maker's answer.
+-- The number and the values of each case of what the making answers.
 use Prim.Native.Nat.{ℕ}
 use Rattle.meaning.specs.Answers.{Answer, given}
 use Rattle.meaning.specs.Calls.{refusalSays}

@@ -1,4 +1,4 @@
--- What the parts of the maker work on: words that stand for sets of states.
+-- What the parts of the making work on: words that stand for sets of states.
 use mathlib.Core.Path.{_≡_}
 use mathlib.Core.Bool.{Bool, true, not, _&&_, _||_}
 use mathlib.Core.List.{List}

@@ -1,4 +1,4 @@
-// The maker of skip books: it checks the rule, finds the states in which a tree can end and then Reach in rounds in its own
+// The making of skip books, a part of opening: it finds the states in which a tree can end and then Reach in rounds in its own
 // room, and writes the book last.
 mod moves;
 mod rounds;
@@ -6,7 +6,6 @@ mod sets;
 mod words;
 
 use meaning::Refusal;
-use rule::Checked;
 use rule::Rule;
 ghost use mathlib.Core.Path.{_≡_};
 ghost use Rattle.meaning.specs.RuleFile.{ruleOf};
@@ -14,22 +13,22 @@ ghost use Rattle.meaning.specs.SkipBook.{makeBook, bookAfter};
 ghost use Rattle.rule.specs.Says.{RuleOf};
 ghost use Rattle.book.specs.Says.{madeSays};
 
-// What the maker answers: how many states are still, or a refusal.
+// What the making answers: how many states are still, or a refusal.
 pub enum Made {
     Still(u32),
     Refused(Refusal),
 }
 
-// The numbers of the maker's own refusals.
+// The numbers of its refusals.
 const BOOK_TOO_SHORT: u8 = 6;
 
 const ROUNDS_USED_UP: u8 = 15;
 
-// The book of an accepted rule.
-fn make_for(file: &[u8], rule: Rule, book: &mut [u64]) -> Made
+// The book of an accepted rule. A refusal leaves what was lent untouched.
+pub fn make_book(file: &[u8], rule: Rule, book: &mut [u64]) -> Made
     requires { ⌜ RuleOf (now file) rule ⌝ }
-    ensures { λ r. ⌜ madeSays r ≡ makeBook (now (file .entry)) (now (book .entry)) ⌝ }
-    ensures { λ r. ⌜ now (book .exit) ≡ bookAfter (makeBook (now (file .entry)) (now (book .entry))) (ruleOf (now (file .entry))) (now (book .entry)) ⌝ }
+    ensures { λ r. ⌜ madeSays r ≡ makeBook (ruleOf (now (file .entry))) (now (book .entry)) ⌝ }
+    ensures { λ r. ⌜ now (book .exit) ≡ bookAfter (makeBook (ruleOf (now (file .entry))) (now (book .entry))) (ruleOf (now (file .entry))) (now (book .entry)) ⌝ }
 {
     let states = rule.states;
     if book.len() <= states as usize {
@@ -48,15 +47,4 @@ fn make_for(file: &[u8], rule: Rule, book: &mut [u64]) -> Made
         });
     }
     Made::Still(words::write_book(file, rule, &reach, book))
-}
-
-// The maker: the book of the rule that a file holds. A refused call leaves the book untouched.
-pub fn make_book(file: &[u8], book: &mut [u64]) -> Made
-    ensures { λ r. ⌜ madeSays r ≡ makeBook (now (file .entry)) (now (book .entry)) ⌝ }
-    ensures { λ r. ⌜ now (book .exit) ≡ bookAfter (makeBook (now (file .entry)) (now (book .entry))) (ruleOf (now (file .entry))) (now (book .entry)) ⌝ }
-{
-    match Rule::of_file(file) {
-        Checked::Refused(refusal) => Made::Refused(refusal),
-        Checked::Fine(rule) => make_for(file, rule, book),
-    }
 }

@@ -1,4 +1,4 @@
-// Readings from a fresh start with the rule's own book: the cases with few levels and with a low ceiling.
+// Readings that are opened, with the rule's own book: the cases with few levels and with a low ceiling.
 use crate::lines;
 use crate::rules::rule_a;
 use crate::stores;
@@ -14,19 +14,15 @@ pub const MOST: u32 = 0xffff_ffff;
 pub fn book_a() -> [u64; 4] {
     let file = rule_a();
     let mut book = [0u64; 4];
-    book::make_book(&file, &mut book);
+    reading::open(&file, &mut book);
     book
 }
 
-// A fresh reading whose initial state is 0.
-pub fn fresh_a() -> Reading {
-    Reading {
-        state: 0,
-        depth: 0,
-        skip: 0,
-        taken: 0,
-        looks: 0,
-    }
+// The reading that opening gives for a rule of up to three states.
+pub fn first_of(file: &[u8]) -> Reading {
+    let mut book = [0u64; 4];
+    let opened = reading::open(file, &mut book);
+    reading::first_of(opened)
 }
 
 // What feeding refused, or else the end of the reading and its looks.
@@ -49,7 +45,7 @@ fn read_a(name: &[u8], book: &[u64], ceiling: u32, events: &[u16]) {
     let levels = [stores::blank(); 1024];
     told(
         name,
-        stores::over_many(&file, book, ceiling, fresh_a(), levels, events),
+        stores::over_many(&file, book, ceiling, first_of(&file), levels, events),
     );
 }
 
@@ -66,7 +62,7 @@ fn one_level(name: &[u8], events: &[u16]) {
     let levels = [stores::blank(); 1];
     told(
         name,
-        stores::over_one(&file, &book, MOST, fresh_a(), levels, events),
+        stores::over_one(&file, &book, MOST, first_of(&file), levels, events),
     );
 }
 
@@ -76,7 +72,7 @@ fn two_levels(name: &[u8], events: &[u16]) {
     let levels = [stores::blank(); 2];
     told(
         name,
-        stores::over_two(&file, &book, MOST, fresh_a(), levels, events),
+        stores::over_two(&file, &book, MOST, first_of(&file), levels, events),
     );
 }
 
@@ -91,7 +87,7 @@ pub fn cases() {
     skip_a(b"a letter that is not known", MOST, &[3, 4]);
 }
 
-// Full reading of rule A, by a book of zeros: no move inside what skipping passes over.
+// Full reading of rule A, opened and then fed with a book of zeros: no move inside what skipping passes over.
 pub fn full_case() {
     read_a(b"A4 in full", &[0, 0, 0, 0], MOST, &[0, 3, 1, 3]);
 }

@@ -1,4 +1,4 @@
-// The rule check, the writer and the maker: every refusal that they can be brought to give.
+// The rule check, the writer and opening: every refusal that they can be brought to give.
 use crate::lines;
 use crate::rules::longer_a;
 use crate::rules::rule_a;
@@ -118,27 +118,35 @@ pub fn writings() {
     lines::checked(b"what was written", Rule::of_file(&enough));
 }
 
-// The book of so many bytes of a file.
-pub fn book_of(name: &[u8], file: &[u8], count: usize) {
-    let mut book = [0u64; 4];
+// So many bytes of a file opened. The book is lent full of sevens: what is not written stays.
+pub fn open(name: &[u8], file: &[u8], count: usize) {
+    let mut book = [7u64; 4];
     if count <= file.len() {
-        let answer = book::make_book(&file[0..count], &mut book);
-        lines::made(name, answer, &book);
+        let answer = reading::open(&file[0..count], &mut book);
+        lines::opened(name, answer, &book);
     }
 }
 
-pub fn books() {
+pub fn openings() {
     let a = rule_a();
     let b = rule_b();
     let c = rule_c();
-    book_of(b"rule A's book", &a, 47);
-    book_of(b"rule B's book", &b, 44);
-    book_of(b"rule C's book", &c, 44);
-    book_of(b"the book of one state", &rule_of_one(), 32);
-    book_of(b"the book of no moves", &rule_of_none(), 44);
-    book_of(b"the book of a cut file", &a, 46);
-    let mut short = [0u64; 3];
-    let blank = [0u64; 4];
-    let answer = book::make_book(&a, &mut short);
-    lines::made(b"a book of three words", answer, &blank);
+    open(b"rule A opened", &a, 47);
+    open(b"rule B opened", &b, 44);
+    open(b"rule C opened", &c, 44);
+    open(b"another initial state opened", &changed(7, 1), 47);
+    open(b"one state opened", &rule_of_one(), 32);
+    open(b"no moves opened", &rule_of_none(), 44);
+}
+
+pub fn unopened() {
+    let a = rule_a();
+    open(b"a cut file opened", &a, 46);
+    let mut short = [7u64; 3];
+    let answer = reading::open(&a, &mut short);
+    lines::opened(
+        b"a book of three words",
+        answer,
+        &[short[0], short[1], short[2], 7],
+    );
 }

@@ -2,7 +2,7 @@
 // lead to the next state, so that Reach takes every round there is before nothing more is added. In the other a tree move leads to
 // the next state, with the state itself as lower state: so does the set of the tree start, and the last move waits for all of it.
 use crate::lines;
-use book::Made;
+use meaning::Opened;
 use rule::Rule;
 use rule::Written;
 use rule::writer;
@@ -43,16 +43,16 @@ fn next_states(moves: &mut [u8], of_letters: bool) {
 
 fn book_of(name: &[u8], file: &[u8]) {
     let mut book = [0u64; 65];
-    let answer = book::make_book(file, &mut book);
+    let answer = reading::open(file, &mut book);
     lines::text(name);
     match answer {
-        Made::Still(count) => {
-            lines::number(count as u64);
+        Opened::Ready(opening) => {
+            lines::number(opening.still as u64);
             lines::number(book[0]);
             lines::number(book[1]);
             lines::number(book[64]);
         }
-        Made::Refused(r) => lines::number(r.number as u64),
+        Opened::Refused(r) => lines::number(r.number as u64),
     }
     lines::text(b"\n");
 }

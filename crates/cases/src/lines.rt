@@ -1,9 +1,9 @@
 // A line for each case: its name, and what the call answered.
-use book::Made;
 use libc::STDOUT_FILENO;
 use meaning::End;
 use meaning::Fed;
 use meaning::Feeding;
+use meaning::Opened;
 use meaning::Refusal;
 use meaning::Verdict;
 use rule::Checked;
@@ -86,20 +86,27 @@ pub fn written(name: &[u8], w: Written) {
     }
 }
 
-// The maker's answer, and the words of the book after it.
-pub fn made(name: &[u8], m: Made, book: &[u64; 4]) {
+// What opening answered, and the words of the book after it.
+pub fn opened(name: &[u8], o: Opened, book: &[u64; 4]) {
     text(name);
-    match m {
-        Made::Still(count) => {
+    match o {
+        Opened::Ready(opening) => {
+            let first = opening.reading;
+            text(b" state");
+            number(first.state as u64);
             text(b" still");
-            number(count as u64);
-            text(b" book");
-            number(book[0]);
-            number(book[1]);
-            number(book[2]);
-            number(book[3]);
-            text(b"\n");
+            number(opening.still as u64);
         }
-        Made::Refused(r) => refused(r),
+        Opened::Refused(r) => {
+            text(b" refused");
+            number(r.number as u64);
+            number(r.place as u64);
+        }
     }
+    text(b" book");
+    number(book[0]);
+    number(book[1]);
+    number(book[2]);
+    number(book[3]);
+    text(b"\n");
 }

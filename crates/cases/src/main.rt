@@ -13,7 +13,8 @@ mod stores;
 fn main() {
     files::rule_checks();
     files::writings();
-    files::books();
+    files::openings();
+    files::unopened();
     largest::letters();
     largest::trees();
     ends::cases();

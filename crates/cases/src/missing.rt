@@ -1,5 +1,6 @@
 // A move that is not there: which of the three it is, after 8 and 9, and not where an event is passed over.
 use crate::documents::MOST;
+use crate::documents::first_of;
 use crate::lines;
 use crate::rules::rule_b;
 use crate::rules::rule_of_none;
@@ -32,10 +33,10 @@ fn one_event(name: &[u8], depth: u32, ceiling: u32, event: u16) {
     lines::fed(name, outcome.fed);
 }
 
-// Events fed to a fresh reading of a rule by some book.
+// Events fed to the reading that opening a rule gives, by some book.
 fn feed_all(name: &[u8], file: &[u8], book: &[u64], events: &[u16]) {
     let levels = [stores::blank(); 1024];
-    let outcome = stores::over_many(file, book, MOST, at_depth(0), levels, events);
+    let outcome = stores::over_many(file, book, MOST, first_of(file), levels, events);
     lines::fed(name, outcome.fed);
 }
 

@@ -12,9 +12,10 @@ use Rattle.meaning.specs.RuleFile.{Move, noMove, to, numbersCheck, tableCheck, 
 use Rattle.meaning.specs.FullReading.{Event, opens, closes, letter, eventOf, Turn, Table, letterTable, startTable, treeTable, noMoveNumber, look, fullTurn, knownEvent, Went, goOn, feedBy}
 use Rattle.meaning.specs.SkipBook.{bookCheck, makeBook}
 use Rattle.meaning.specs.Skipping.{settledTurn, endsLevel, skipTurn, skipEvent}
-use Rattle.meaning.specs.Calls.{Stored, freshCall, storeStep, readingCheck, fedFrom, feedCall, endOf, finishCall, finishFed, readWith, wholeFrom, wholeDocument}
+use Rattle.meaning.specs.Calls.{Stored, openCall, storeStep, readingCheck, fedFrom, feedCall, endOf, finishCall, finishFed, readWith, wholeFrom, wholeDocument}
 use Rattle.meaning.specs.declared.Reading.{Reading}
 use Rattle.meaning.specs.declared.Level.{Level}
+use Rattle.meaning.specs.declared.Opening.{Opening}
 use Rattle.rule.specs.Says.{checkAnswer}
 use Rattle.host.specs.Numbers.{answerNumbers, fedNumbers}
 
@@ -91,20 +92,19 @@ write-numbered R room =
     (follows _ _ (table _ _ _)
     (refuses _ _ _ _ (omega arith) isGiven)))))))
 
--- ---- the maker and a fresh reading
+-- ---- open
 
 short : (R : format.Rule) (book : List ℕ) → Numbered (bookCheck R book)
 unfolding bookCheck
 short R book = refuses _ _ _ _ (omega arith) isGiven
 
-pub book-numbered : (file book : List ℕ) → Numbered (makeBook file book)
+made : (R : format.Rule) (book : List ℕ) → Numbered (makeBook R book)
 unfolding makeBook
-book-numbered file book =
-    gives _ _ (rule-numbered file) (λ R. follows _ _ (short R book) (refuses _ _ _ _ (omega arith) isGiven))
+made R book = follows _ _ (short R book) (refuses _ _ _ _ (omega arith) isGiven)
 
-pub fresh-numbered : (file : List ℕ) → Numbered (freshCall file)
-unfolding freshCall
-fresh-numbered file = gives _ _ (rule-numbered file) (λ R. isGiven)
+pub open-numbered : (file book : List ℕ) → Numbered (openCall file book)
+unfolding openCall
+open-numbered file book = gives _ _ (rule-numbered file) (λ R. gives _ _ (made R book) (λ count. isGiven))
 
 -- ---- one event
 
@@ -174,15 +174,15 @@ unfolding finishCall endOf
 finish-numbered file book r store =
     gives _ _ (reading file book r store) (λ R. refuses _ _ _ _ (omega arith) isGiven)
 
-whole : (x : Answer ℕ) (file book : List ℕ) (store : List Level) (events : List ℕ) → Numbered x → Numbered (wholeFrom x file book store events .answer)
+whole : (x : Answer Opening) (file book : List ℕ) (store : List Level) (events : List ℕ) → Numbered x → Numbered (wholeFrom x file book store events .answer)
 unfolding wholeFrom readWith finishFed
-whole (given count) file book store events n =
+whole (given o) file book store events n =
     gives _ _ (feed-numbered file _ _ _ store events) (λ done. finish-numbered file _ _ _)
 whole (refused number place) file book store events (isRefused h) = isRefused h
 
 pub document-numbered : (file book : List ℕ) (store : List Level) (events : List ℕ) → Numbered (wholeDocument file book store events .answer)
 unfolding wholeDocument
-document-numbered file book store events = whole _ file book store events (book-numbered file book)
+document-numbered file book store events = whole _ file book store events (open-numbered file book)
 
 -- ---- what a host may count on
 

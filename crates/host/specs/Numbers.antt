@@ -9,6 +9,7 @@ use Rattle.meaning.specs.Answers.{Answer, given, refused, _≤?_, if_then_else_
 use Rattle.meaning.specs.FullReading.{Went}
 use Rattle.meaning.specs.Calls.{Judged, Stored, eventsTaken, Whole}
 use Rattle.meaning.specs.declared.Level.{Level}
+use Rattle.meaning.specs.declared.Opening.{Opening}
 use Rattle.meaning.specs.declared.Reading.{Reading}
 use Rattle.rule.specs.declared.Rule.{Rule}
 
@@ -35,13 +36,17 @@ answerNumbers values (refused number place) = number ∷ place ∷ []
 abbrev pub ruleValues : Rule → List ℕ
 ruleValues R = R .states ∷ R .initial ∷ R .«tree_start» ∷ R .letters ∷ []
 
--- the count of bytes written, or of states that are still
+-- the count of bytes written
 abbrev pub countValue : ℕ → List ℕ
 countValue count = count ∷ []
 
 -- the state, the stored depth, the skip depth, the events taken and the looks made
 abbrev pub readingValues : Reading → List ℕ
 readingValues r = r .state ∷ r .depth ∷ r .skip ∷ r .taken ∷ r .looks ∷ []
+
+-- how many states are still, and the fresh reading
+abbrev pub openingValues : Opening → List ℕ
+openingValues o = o .still ∷ readingValues (o .reading)
 
 -- the class of the verdict, and the end state
 abbrev pub judgedValues : Judged → List ℕ

@@ -1,24 +1,21 @@
 // The numbers of each answer, laid into the lent slice.
 use crate::lay::lay;
-use book::Made;
 use meaning::End;
 use meaning::Fed;
 use meaning::Feeding;
 use meaning::Judgement;
+use meaning::Opened;
 use meaning::Reading;
 use meaning::Refusal;
 use meaning::Verdict;
-use reading::Begun;
 use rule::Checked;
 use rule::Rule;
 use rule::Written;
 ghost use mathlib.Core.Path.{_≡_};
 ghost use mathlib.Core.List.{[], _∷_};
-ghost use Rattle.meaning.specs.Calls.{verdictSays, endSays, feedingSays};
+ghost use Rattle.meaning.specs.Calls.{openedSays, verdictSays, endSays, feedingSays};
 ghost use Rattle.rule.specs.Says.{checkedSays, writtenSays};
-ghost use Rattle.book.specs.Says.{madeSays};
-ghost use Rattle.reading.specs.Checks.{begunSays};
-ghost use Rattle.host.specs.Numbers.{Laid, answerNumbers, ruleValues, countValue, readingValues, judgedValues, fedNumbers};
+ghost use Rattle.host.specs.Numbers.{Laid, answerNumbers, ruleValues, countValue, openingValues, readingValues, judgedValues, fedNumbers};
 
 fn lay_refusal(refusal: Refusal, answer: &mut [u64]) -> bool
     ensures { λ r. ⌜ Laid (refusal .number ∷ refusal .place ∷ []) (now (answer .entry)) r (now (answer .exit)) ⌝ }
@@ -68,48 +65,14 @@ pub fn lay_written(written: Written, answer: &mut [u64]) -> bool
     }
 }
 
-// The answer of the maker.
-pub fn lay_made(made: Made, answer: &mut [u64]) -> bool
-    ensures { λ r. ⌜ Laid (answerNumbers countValue (madeSays made)) (now (answer .entry)) r (now (answer .exit)) ⌝ }
-{
-    match made {
-        Made::Still(count) => lay_count(count as u64, answer),
-        Made::Refused(refusal) => lay_refusal(refusal, answer),
-    }
-}
-
-fn lay_reading(reading: Reading, answer: &mut [u64]) -> bool
-    ensures { λ r. ⌜ Laid (0 ∷ 0 ∷ readingValues reading) (now (answer .entry)) r (now (answer .exit)) ⌝ }
-{
-    let numbers: [u64; 7] = [
-        0,
-        0,
-        reading.state as u64,
-        reading.depth as u64,
-        reading.skip as u64,
-        reading.taken as u64,
-        reading.looks as u64,
-    ];
-    lay(&numbers, answer)
-}
-
-// The answer of a fresh reading.
-pub fn lay_begun(begun: Begun, answer: &mut [u64]) -> bool
-    ensures { λ r. ⌜ Laid (answerNumbers readingValues (begunSays begun)) (now (answer .entry)) r (now (answer .exit)) ⌝ }
-{
-    match begun {
-        Begun::At(reading) => lay_reading(reading, answer),
-        Begun::Refused(refusal) => lay_refusal(refusal, answer),
-    }
-}
-
-fn lay_took(number: u8, place: usize, took: u32, reading: Reading, answer: &mut [u64]) -> bool
-    ensures { λ r. ⌜ Laid (number ∷ place ∷ took ∷ readingValues reading) (now (answer .entry)) r (now (answer .exit)) ⌝ }
+// A count and a reading.
+fn lay_counted(number: u8, place: usize, count: u32, reading: Reading, answer: &mut [u64]) -> bool
+    ensures { λ r. ⌜ Laid (number ∷ place ∷ count ∷ readingValues reading) (now (answer .entry)) r (now (answer .exit)) ⌝ }
 {
     let numbers: [u64; 8] = [
         number as u64,
         place as u64,
-        took as u64,
+        count as u64,
         reading.state as u64,
         reading.depth as u64,
         reading.skip as u64,
@@ -117,6 +80,16 @@ fn lay_took(number: u8, place: usize, took: u32, reading: Reading, answer: &mut 
         reading.looks as u64,
     ];
     lay(&numbers, answer)
+}
+
+// The answer of opening: how many states are still, and the fresh reading.
+pub fn lay_opened(opened: Opened, answer: &mut [u64]) -> bool
+    ensures { λ r. ⌜ Laid (answerNumbers openingValues (openedSays opened)) (now (answer .entry)) r (now (answer .exit)) ⌝ }
+{
+    match opened {
+        Opened::Ready(opening) => lay_counted(0, 0, opening.still, opening.reading, answer),
+        Opened::Refused(refusal) => lay_refusal(refusal, answer),
+    }
 }
 
 // The answer of feeding: its values stand also where it was refused.
@@ -126,8 +99,8 @@ pub fn lay_fed(fed: Fed, answer: &mut [u64]) -> bool
     let reading = fed.reading;
     let ended = fed.ended;
     match ended {
-        Feeding::AllTaken => lay_took(0, 0, fed.taken, reading, answer),
-        Feeding::Refused(refusal) => lay_took(
+        Feeding::AllTaken => lay_counted(0, 0, fed.taken, reading, answer),
+        Feeding::Refused(refusal) => lay_counted(
             refusal.number,
             refusal.place,
             fed.taken,

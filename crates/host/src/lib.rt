@@ -1,32 +1,29 @@
-// What a host in C or Rust links: the calls of rule, book and reading on numbers and slices. Each call lays its answer into a
+// What a host in C or Rust links: the calls of rule and reading on numbers and slices. Each call lays its answer into a
 // lent slice of 64-bit numbers: the number of the refusal or 0, its place or 0, and then the values that were given. It returns
 // whether they fitted: into a slice that is too short nothing is laid. Eight numbers are room enough for every call.
 mod answers;
 mod lay;
 
-use answers::lay_begun;
 use answers::lay_checked;
 use answers::lay_end;
 use answers::lay_fed;
-use answers::lay_made;
+use answers::lay_opened;
 use answers::lay_written;
-use book::make_book;
 use meaning::Level;
 use meaning::Reading;
 use reading::feed;
 use reading::finish;
-use reading::fresh;
+use reading::open;
 use reading::read_document;
 use rule::Rule;
 use rule::writer::write;
 ghost use mathlib.Core.Path.{_≡_};
 ghost use lib.ListN.{length};
-ghost use Rattle.meaning.specs.RuleFile.{ruleOf, writeCheck, outputAfter};
-ghost use Rattle.meaning.specs.SkipBook.{makeBook, bookAfter};
-ghost use Rattle.meaning.specs.Calls.{freshCall, feedCall, finishCall, wholeDocument};
+ghost use Rattle.meaning.specs.RuleFile.{writeCheck, outputAfter};
+ghost use Rattle.meaning.specs.Calls.{openCall, openedBook, feedCall, finishCall, wholeDocument};
 ghost use Rattle.rule.specs.Says.{checkAnswer};
 ghost use Rattle.rule.specs.Checks.{ruleFrom};
-ghost use Rattle.host.specs.Numbers.{Laid, answerNumbers, ruleValues, countValue, readingValues, judgedValues, readingFrom, FeedLaid, DocumentLaid};
+ghost use Rattle.host.specs.Numbers.{Laid, answerNumbers, ruleValues, countValue, openingValues, judgedValues, readingFrom, FeedLaid, DocumentLaid};
 
 // The rule check: n, the initial state, the tree start and k.
 #[no_mangle]
@@ -65,21 +62,15 @@ pub extern "C" fn venticapro_write_rule(
     lay_written(written, answer)
 }
 
-// The maker: how many states are still; the book lies in the words lent.
+// Open: how many states are still, and the fresh reading, its state and its four counts; the book lies in the words lent. A host
+// hands that reading and that book on to feeding and finish. One that wants full reading opens too, and then feeds and finishes
+// with a book of n+1 zeros.
 #[no_mangle]
-pub extern "C" fn venticapro_make_book(file: &[u8], book: &mut [u64], answer: &mut [u64]) -> bool
-    ensures { λ r. ⌜ Laid (answerNumbers countValue (makeBook (now (file .entry)) (now (book .entry)))) (now (answer .entry)) r (now (answer .exit)) ⌝ }
-    ensures { λ _. ⌜ now (book .exit) ≡ bookAfter (makeBook (now (file .entry)) (now (book .entry))) (ruleOf (now (file .entry))) (now (book .entry)) ⌝ }
+pub extern "C" fn venticapro_open(file: &[u8], book: &mut [u64], answer: &mut [u64]) -> bool
+    ensures { λ r. ⌜ Laid (answerNumbers openingValues (openCall (now (file .entry)) (now (book .entry)))) (now (answer .entry)) r (now (answer .exit)) ⌝ }
+    ensures { λ _. ⌜ now (book .exit) ≡ openedBook (now (file .entry)) (now (book .entry)) ⌝ }
 {
-    lay_made(make_book(file, book), answer)
-}
-
-// A fresh reading: its state and its four counts.
-#[no_mangle]
-pub extern "C" fn venticapro_fresh(file: &[u8], answer: &mut [u64]) -> bool
-    ensures { λ r. ⌜ Laid (answerNumbers readingValues (freshCall (now (file .entry)))) (now (answer .entry)) r (now (answer .exit)) ⌝ }
-{
-    lay_begun(fresh(file), answer)
+    lay_opened(open(file, book), answer)
 }
 
 // Feeding: the events it took and the reading after them, also where an event is refused. The level store is lent as records:

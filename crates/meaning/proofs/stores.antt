@@ -5,6 +5,7 @@ pub mod KeptReading
 pub mod ReadingCheck
 pub mod SplitFeeds
 pub mod OneAnswer
+pub mod Opens
 pub mod Whole
 pub mod ZeroBook
 pub mod BookBits

@@ -1,6 +1,5 @@
 -- The calls (document 01, "Calls and numbers"): for each, its answer on every input and what it leaves in each lent slice.
--- The rule check, the writer and the maker stand with their own headings. Every call here takes the rule as the bytes of
--- its file.
+-- The rule check and the writer stand with their own heading. Every call here takes the rule as the bytes of its file.
 use Prim.Native.Nat.{ℕ, _+_, _-_, _≤_, _<_}
 use mathlib.Core.Path.{_≡_}
 use mathlib.Core.Bool.{Bool, not, _&&_, _||_}
@@ -11,6 +10,9 @@ use Rattle.meaning.specs.declared.Level.{Level}
 use Rattle.meaning.specs.declared.Refusal.{Refusal}
 use Rattle.meaning.specs.declared.Verdict.{Verdict}
 use Rattle.meaning.specs.declared.Verdict.the-variants.{OffSchema, Reject, Accept}
+use Rattle.meaning.specs.declared.Opening.{Opening}
+use Rattle.meaning.specs.declared.Opened.{Opened}
+use Rattle.meaning.specs.declared.Opened.the-variants as opened
 use Rattle.meaning.specs.declared.End.{End}
 use Rattle.meaning.specs.declared.End.the-variants as end
 use Rattle.meaning.specs.declared.Feeding.{Feeding}
@@ -38,6 +40,10 @@ pub record Judged : Type 0 where
 unfoldable pub refusalSays : {A : Type 0} → Refusal → Answer A
 refusalSays r = refused (r .number) (r .place)
 
+unfoldable pub openedSays : Opened → Answer Opening
+openedSays (opened.Ready o) = given o
+openedSays (opened.Refused r) = refusalSays r
+
 unfoldable pub endSays : End → Answer Judged
 endSays (end.Judged j) = given (record { class = verdictSays (j .verdict); state = j .state })
 endSays (end.Refused r) = refusalSays r
@@ -46,10 +52,19 @@ unfoldable pub feedingSays : Feeding → Answer Unit
 feedingSays feeding.AllTaken = given tt
 feedingSays (feeding.Refused r) = refusalSays r
 
--- ---- fresh reading
+-- ---- open
 
-unfoldable pub freshCall : List ℕ → Answer Reading
-freshCall file = checkRule file giving λ R. given (freshReading R)
+-- One call, in the place of the maker and the fresh reading: it fills the lent book and gives the fresh reading and how many
+-- states are still. Refusals: the rule check, 6, 15.
+unfoldable pub openCall : List ℕ → List ℕ → Answer Opening
+openCall file book =
+    checkRule file giving λ R.
+    makeBook R book giving λ count.
+    given (record { reading = freshReading R; still = count })
+
+-- what it leaves in the book: the skip book of the rule and the words past n+1 as they were, or, refused, what was there
+abbrev pub openedBook : List ℕ → List ℕ → List ℕ
+openedBook file book = bookAfter (openCall file book) (ruleOf file) book
 
 -- ---- a reading over the lent level store
 
@@ -176,11 +191,11 @@ finishCall file book r store = readingCheck file book r store giving λ R. endOf
 
 -- ---- a reading by the calls
 
--- A reading from the first event on that ends with a verdict: feeding takes all events, and finish then answers it.
-pub record ReadsTo (file book : List ℕ) (store : List Level) (ceiling : ℕ) (events : List ℕ) (R : Rule) (j : Judged) : Type 0 where
-  pub takesAll : feedCall file book ceiling (freshReading R) store events .ended ≡ given tt
-  pub verdict : finishCall file book (feedCall file book ceiling (freshReading R) store events .last .reading)
-      (feedCall file book ceiling (freshReading R) store events .last .store) ≡ given j
+-- From a reading, such as the one that opening gave, to a verdict: feeding takes all events, and finish then answers it.
+pub record ReadsTo (file book : List ℕ) (first : Reading) (store : List Level) (ceiling : ℕ) (events : List ℕ) (j : Judged) : Type 0 where
+  pub takesAll : feedCall file book ceiling first store events .ended ≡ given tt
+  pub verdict : finishCall file book (feedCall file book ceiling first store events .last .reading)
+      (feedCall file book ceiling first store events .last .store) ≡ given j
 
 -- ---- the whole-document call
 
@@ -197,16 +212,16 @@ pub record Whole : Type 0 where
 unfoldable pub finishFed : List ℕ → List ℕ → Went Stored → Answer Judged
 finishFed file book w = w .ended giving λ done. finishCall file book (w .last .reading) (w .last .store)
 
-unfoldable pub readWith : List ℕ → List ℕ → List Level → List ℕ → Whole
-readWith file book store events =
-    let fed : Went Stored = feedCall file book largestCeiling (freshReading (ruleOf file)) store events in
+unfoldable pub readWith : List ℕ → List ℕ → Reading → List Level → List ℕ → Whole
+readWith file book first store events =
+    let fed : Went Stored = feedCall file book largestCeiling first store events in
     record { answer = finishFed file book fed; book = book; store = fed .last .store }
 
-unfoldable pub wholeFrom : Answer ℕ → List ℕ → List ℕ → List Level → List ℕ → Whole
-wholeFrom (given count) file book store events = readWith file (bookAfter (given count) (ruleOf file) book) store events
+unfoldable pub wholeFrom : Answer Opening → List ℕ → List ℕ → List Level → List ℕ → Whole
+wholeFrom (given o) file book store events = readWith file (bookAfter (given o) (ruleOf file) book) (o .reading) store events
 wholeFrom (refused number place) file book store events =
     record { answer = refused number place; book = book; store = store }
 
--- the rule check, the book, feed and finish in turn, with the largest ceiling
+-- open, feed and finish in turn, with the book that opening wrote and from the reading that it gave, under the largest ceiling
 unfoldable pub wholeDocument : List ℕ → List ℕ → List Level → List ℕ → Whole
-wholeDocument file book store events = wholeFrom (makeBook file book) file book store events
+wholeDocument file book store events = wholeFrom (openCall file book) file book store events

@@ -8,8 +8,9 @@ use lib.ListN.{replicate}
 use Rattle.meaning.specs.Answers.{Answer, given, refused, _giving_, _=?_}
 use Rattle.meaning.specs.RuleFile.{Rule, ruleOf, ruleBytes}
 use Rattle.meaning.specs.FullReading.{Run, Went, feedBy, fullStep, freshReading, innermost, blank}
-use Rattle.meaning.specs.SkipBook.{makeBook, bookAfter}
-use Rattle.meaning.specs.Calls.{Judged, Stored, feedCall, finishFed, endOf, largestCeiling}
+use Rattle.meaning.specs.SkipBook.{bookAfter}
+use Rattle.meaning.specs.declared.Opening.{Opening}
+use Rattle.meaning.specs.Calls.{Judged, Stored, openCall, feedCall, finishFed, endOf, largestCeiling}
 
 -- rule A, the bytes of its file
 unfoldable pub ruleA : List ℕ
@@ -89,12 +90,14 @@ accept state looks = given (record { class = 2; state = state; looks = looks })
 unfoldable pub withLooks : ℕ → Judged → Answer Ended
 withLooks looks j = given (record { class = j .class; state = j .state; looks = looks })
 
--- skipping from a fresh reading with the rule's own book, eight levels and the largest ceiling
+-- skipping as opening has it begin, with eight levels and the largest ceiling
 unfoldable pub skippingEnds : List ℕ → List ℕ → Answer Ended
 skippingEnds file events =
     let zeros : List ℕ = replicate 64 0 in
-    let book : List ℕ = bookAfter (makeBook file zeros) (ruleOf file) zeros in
-    let fed : Went Stored = feedCall file book largestCeiling (freshReading (ruleOf file)) (replicate 8 blank) events in
+    let opened : Answer Opening = openCall file zeros in
+    let book : List ℕ = bookAfter opened (ruleOf file) zeros in
+    opened giving λ o.
+    let fed : Went Stored = feedCall file book largestCeiling (o .reading) (replicate 8 blank) events in
     finishFed file book fed giving withLooks (fed .last .reading .looks)
 
 -- full reading with the same levels and ceiling
@@ -117,8 +120,8 @@ sameNumbers [] (y ∷ ys) = false
 sameNumbers (x ∷ xs) [] = false
 sameNumbers (x ∷ xs) (y ∷ ys) = x =? y && sameNumbers xs ys
 
-unfoldable pub sameCount : Answer ℕ → ℕ → Bool
-sameCount (given count) n = count =? n
+unfoldable pub sameCount : Answer Opening → ℕ → Bool
+sameCount (given o) n = o .still =? n
 sameCount (refused number place) n = false
 
 unfoldable pub sameEnd : Answer Ended → Answer Ended → Bool
@@ -127,12 +130,12 @@ sameEnd (given a) (refused number place) = false
 sameEnd (refused number place) (given b) = false
 sameEnd (refused number place) (refused number′ place′) = number =? number′ && place =? place′
 
--- the room that the book is made in is that of three states, and a word past the book stays 0
+-- the room that is lent for the book is that of three states, and a word past the book stays 0
 unfoldable pub holds : Row → Bool
 holds (theBook file book count) =
     let room : List ℕ = replicate 4 0 in
-    let made : Answer ℕ = makeBook file room in
-    sameNumbers (bookAfter made (ruleOf file) room) book && sameCount made count
+    let opened : Answer Opening = openCall file room in
+    sameNumbers (bookAfter opened (ruleOf file) room) book && sameCount opened count
 holds (bothEnd file events skipping full) =
     sameEnd (skippingEnds file events) skipping && sameEnd (fullEnds file events) full
 holds (skippingEnd file events skipping) = sameEnd (skippingEnds file events) skipping

@@ -6,8 +6,8 @@ use mathlib.Core.Bool.{Bool, true, false, not, _&&_, _||_}
 use mathlib.Core.List.{List, [], _∷_, _++_}
 use lib.ListN.{length, getD, drop}
 use lib.Count.{ones}
-use Rattle.meaning.specs.Answers.{Answer, given, refused, refuse_at_when_otherwise_, _andThen_, _giving_, _<?_, _=?_}
-use Rattle.meaning.specs.RuleFile.{Rule, Move, noMove, to, letterMove, treeMove, treeStartMove, checkRule, ruleOf}
+use Rattle.meaning.specs.Answers.{Answer, given, refused, refuse_at_when_otherwise_, _andThen_, _<?_, _=?_}
+use Rattle.meaning.specs.RuleFile.{Rule, Move, noMove, to, letterMove, treeMove, treeStartMove}
 
 -- ---- Reach
 
@@ -154,26 +154,22 @@ pub record IsBook (R : Rule) (book : List ℕ) : Type 0 where
   pub stillIs : (q : ℕ) → q < R .states → (inStill book q ≡ true) ↔ Still R q
   pub holdIs : (u p : ℕ) → u < R .states → p < R .states → (inHold book u p ≡ true) ↔ Hold R u p
 
--- ---- the maker
+-- ---- the book's part of opening
 
 -- number 6: the book is shorter than n+1
 unfoldable pub bookCheck : Rule → List ℕ → Answer Unit
 bookCheck R book = refuse 6 at 0 when length book <? R .states + 1 otherwise given tt
 
--- Refusals: the rule check, a book shorter than n+1, rounds used up. Otherwise how many states are still, counted as the
--- ones in that word.
-unfoldable pub makeBook : List ℕ → List ℕ → Answer ℕ
-makeBook file book =
-    checkRule file giving λ R.
+-- After the rule check: a book shorter than n+1, rounds used up. Otherwise how many states are still, counted as the ones in
+-- that word.
+unfoldable pub makeBook : Rule → List ℕ → Answer ℕ
+makeBook R book =
     bookCheck R book andThen
     refuse 15 at 0 when roundsUsedUp R otherwise
     given (ones (wordOf (stillMarks R)))
 
--- what the book holds after the maker gave that answer: the words of the rule, and the words past them as they were
-unfoldable pub bookAfter : Answer ℕ → Rule → List ℕ → List ℕ
-bookAfter (given count) R book = bookOf R ++ drop (R .states + 1) book
+-- What the book holds after that answer: the words of the rule, and the words past them as they were. A refused call leaves it
+-- untouched.
+unfoldable pub bookAfter : {A : Type 0} → Answer A → Rule → List ℕ → List ℕ
+bookAfter (given a) R book = bookOf R ++ drop (R .states + 1) book
 bookAfter (refused number place) R book = book
-
--- the book that a call of the maker leaves
-abbrev pub madeBook : List ℕ → List ℕ → List ℕ
-madeBook file book = bookAfter (makeBook file book) (ruleOf file) book

@@ -42,6 +42,18 @@ pub struct Level {
     pub opened: u32,
 }
 
+// What opening gives: the fresh reading, and how many states are still.
+pub struct Opening {
+    pub reading: Reading,
+    pub still: u32,
+}
+
+// What opening answers: a reading that is ready to be fed, with the still count, or a refusal.
+pub enum Opened {
+    Ready(Opening),
+    Refused(Refusal),
+}
+
 // How feeding ended: all events taken, or one refused.
 pub enum Feeding {
     AllTaken,

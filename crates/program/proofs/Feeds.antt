@@ -1,9 +1,8 @@
 -- Feeding in parts: what a reading took so far and then more events is all of them, refused or not.
 use mathlib.Core.Path.{_≡_, refl, sym, ap, _∙_}
-use mathlib.Core.List.{List, [], _∷_, _++_}
-use Prim.Native.Nat.{ℕ, zero, suc, _≤_}
-use native.Mathlib.Nat.{not-suc-le-zero, le-of-suc-le-suc}
-use lib.ListN.{length, getD, replicate}
+use mathlib.Core.List.{List, _++_}
+use Prim.Native.Nat.{ℕ}
+use lib.ListN.{replicate}
 use Rattle.meaning.specs.Answers.{Answer, given, refused}
 use Rattle.meaning.specs.RuleFile.{Rule, ruleOf}
 use Rattle.meaning.specs.FullReading.{Went, freshReading, blank}
@@ -15,12 +14,6 @@ use Rattle.meaning.proofs.laws.FeedLaws.{feed-append-refused}
 use Rattle.meaning.proofs.stores.ReadingCheck.{feed-checked, feed-unchecked}
 use Rattle.meaning.proofs.stores.SplitFeeds.{split-feeds}
 use Rattle.program.specs.Passes.{fedOn}
-
--- past the end of a list there is nothing
-pub past-end : (l : List ℕ) (i : ℕ) → length l ≤ i → getD l i 0 ≡ 0
-past-end [] i h = refl
-past-end (x ∷ l) zero h = absurd (not-suc-le-zero h)
-past-end (x ∷ l) (suc i) h = past-end l i (le-of-suc-le-suc h)
 
 module _ (file book : List ℕ) (w : Went Stored) (events : List ℕ) where
   pub on-given : w .ended ≡ given tt

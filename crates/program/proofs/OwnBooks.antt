@@ -3,17 +3,19 @@ use mathlib.Core.Path.{_≡_, refl, sym, ap, _∙_}
 use mathlib.Core.List.{List, _++_}
 use Prim.Native.Nat.{ℕ, _+_, _≤_}
 use native.Mathlib.Omega.{arith}
+use lib.Count.{ones}
 use lib.ListN.{length, drop, replicate, length-append, length-replicate}
 use Rattle.meaning.specs.Answers.{given, _giving_}
 use Rattle.meaning.specs.RuleFile.{Rule, ruleOf, checkRule}
-use Rattle.meaning.specs.SkipBook.{bookOf, makeBook, bookAfter}
+use Rattle.meaning.specs.SkipBook.{bookOf, stillMarks, wordOf}
 use Rattle.meaning.specs.Skipping.{SameSets}
 use Rattle.meaning.specs.FullReading.{Went, freshReading, blank}
-use Rattle.meaning.specs.Calls.{Stored, finishFed, largestCeiling}
+use Rattle.meaning.specs.Calls.{Stored, openCall, finishFed, largestCeiling}
 use Rattle.meaning.specs.CheckProgram.{Input, lineFrom, lineWith, programFed, programLevels, skipLine, fullLine}
 use Rattle.meaning.proofs.rulefile.Accepted.{accepted-is-rule}
 use Rattle.meaning.proofs.skipbook.Rounds.{most-states}
-use Rattle.meaning.proofs.skipbook.BookMade.{book-length, always-made}
+use Rattle.meaning.proofs.skipbook.BookMade.{book-length, after-given}
+use Rattle.meaning.proofs.stores.Opens.{always-opens}
 use Rattle.meaning.proofs.stores.ZeroBook.{zeros}
 use Rattle.meaning.proofs.stores.BookBits.{words-past, zeros-same, books-feed-alike, books-finish-alike}
 use Rattle.program.specs.Bodies.{zeroBook, programBook, fedLine}
@@ -43,9 +45,13 @@ module _ (file : List ℕ) (accepted : checkRule file ≡ given (ruleOf file)) w
   unfolding zeroBook
   zero-long = omega (arith, few-states)
 
+  -- such a file is opened
+  pub opens : openCall file zeroBook ≡ given (record { reading = freshReading R; still = ones (wordOf (stillMarks R)) })
+  opens = always-opens file zeroBook accepted zero-long
+
   made : programBook file ≡ bookOf R ++ drop (R .states + 1) zeroBook
-  unfolding programBook bookAfter
-  made = rw (always-made file zeroBook accepted zero-long, bookAfter)
+  unfolding programBook
+  made = after-given _ R zeroBook opens
 
   own-long : R .states + 1 ≤ length (programBook file)
   own-long = rw made (simp length-append (omega (arith, book-length R)))

@@ -6,15 +6,14 @@ use mathlib.Core.Bool.{true, false}
 use mathlib.Core.List.{List, [], _++_}
 use lib.ListN.{length, take, drop, replicate}
 use Rattle.meaning.specs.Answers.{Answer, given, _giving_}
-use Rattle.meaning.specs.RuleFile.{ruleOf, headerLength}
-use Rattle.meaning.specs.SkipBook.{makeBook, bookAfter}
+use Rattle.meaning.specs.RuleFile.{headerLength}
 use Rattle.meaning.specs.FullReading.{Went}
-use Rattle.meaning.specs.Calls.{Stored, finishFed}
+use Rattle.meaning.specs.Calls.{Stored, openedBook, finishFed}
 use Rattle.meaning.specs.CheckProgram.{eventsIn, frontLength, frontCheck, Line, lineFrom, programFed, lineBytes, skipWord, fullWord}
 use Rattle.program.specs.Passes.{passSays}
 use Rattle.program.specs.declared.body.Body.{Body}
 
--- 65 words, as many as the longest book has: zeros, and what the maker makes of them
+-- 65 words, as many as the longest book has: zeros, and what opening makes of them
 abbrev pub bookWords : ℕ
 bookWords = 65
 
@@ -22,7 +21,7 @@ unfoldable pub zeroBook : List ℕ
 zeroBook = replicate bookWords 0
 
 unfoldable pub programBook : List ℕ → List ℕ
-programBook file = bookAfter (makeBook file zeroBook) (ruleOf file) zeroBook
+programBook file = openedBook file zeroBook
 
 -- the most bytes of a block
 abbrev pub blockLength : ℕ

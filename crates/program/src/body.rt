@@ -8,6 +8,7 @@ use crate::passes::go_on;
 use crate::text::Text;
 use crate::text::empty;
 use crate::text::word;
+use meaning::Reading;
 use meaning::Refusal;
 use rule::tables::HEADER;
 ghost use mathlib.Core.Path.{_≡_};
@@ -15,9 +16,10 @@ ghost use mathlib.Core.Bool.{false};
 ghost use mathlib.Core.List.{List, [], _++_};
 ghost use Prim.Native.Nat.{ℕ, _+_, _%_, _≤_};
 ghost use lib.ListN.{length, take};
-ghost use Rattle.meaning.specs.Answers.{refused};
+ghost use Rattle.meaning.specs.Answers.{given, refused};
 ghost use Rattle.meaning.specs.Calls.{refusalSays};
-ghost use Rattle.meaning.specs.RuleFile.{headerLength};
+ghost use Rattle.meaning.specs.RuleFile.{headerLength, ruleOf, checkRule};
+ghost use Rattle.meaning.specs.FullReading.{freshReading};
 ghost use Rattle.meaning.specs.CheckProgram.{frontLength, frontCheck, eventsIn, lineBytes, ruleWord, printed};
 ghost use Rattle.program.specs.Passes.{passSays, fedOn};
 ghost use Rattle.program.specs.Texts.{textSays, InRoom};
@@ -29,6 +31,12 @@ pub const BLOCK: usize = 65536;
 const EVENTS: usize = 32768;
 
 const WORDS: usize = 65;
+
+// What opening gave: the first reading, and the rule's own book.
+pub struct Start {
+    pub first: Reading,
+    pub book: [u64; 65],
+}
 
 // Both readings.
 pub struct Both {
@@ -50,13 +58,14 @@ fn zeros() -> [u64; 65]
     [0; WORDS]
 }
 
-// The rule's own book.
-pub fn own_book(file: &[u8]) -> [u64; 65]
-    ensures { λ r. ⌜ r ≡ programBook (now (file .entry)) ⌝ ∗ ⌜ length r ≡ 65 ⌝ }
+// The rule opened: a book of zeros is filled, and both readings begin from the one that was given.
+pub fn open(file: &[u8]) -> Start
+    ensures { λ r. ⌜ (checkRule (now (file .entry)) ≡ given (ruleOf (now (file .entry))) → r .first ≡ freshReading (ruleOf (now (file .entry)))) ⌝ ∗ ⌜ r .book ≡ programBook (now (file .entry)) ⌝ ∗ ⌜ length (r .book) ≡ 65 ⌝ }
 {
     let mut book = zeros();
-    book::make_book(file, &mut book);
-    book
+    let opened = reading::open(file, &mut book);
+    let first = reading::first_of(opened);
+    Start { first, book }
 }
 
 // The first bytes of the body are in the front already: they are laid into a block, as many as it takes, and the rest of it stays.
@@ -74,13 +83,13 @@ pub fn carry(front: &[u8], block: &mut [u8]) -> usize
     i
 }
 
-// Before the first byte.
-pub fn begin(file: &[u8], book: &[u64]) -> Body
-    ensures { λ r. ⌜ ((size : ℕ) → Took (now (file .entry)) (now (book .entry)) size r []) ⌝ }
+// Before the first byte: both readings begin from the same one, and the full one is fed with a book of zeros.
+pub fn begin(file: &[u8], book: &[u64], first: Reading) -> Body
+    ensures { λ r. ⌜ ((size : ℕ) → first ≡ freshReading (ruleOf (now (file .entry))) → Took (now (file .entry)) (now (book .entry)) size r []) ⌝ }
 {
     let zero = zeros();
-    let skip = passes::begin(file, book);
-    let full = passes::begin(file, &zero);
+    let skip = passes::begin(file, book, first);
+    let full = passes::begin(file, &zero, first);
     Body {
         both: Both { skip, full },
         taken: 0,

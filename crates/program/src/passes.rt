@@ -5,47 +5,20 @@ use meaning::Level;
 use meaning::Reading;
 ghost use mathlib.Core.Path.{_≡_};
 ghost use mathlib.Core.List.{[]};
-ghost use lib.ListN.{getD, replicate};
-ghost use Rattle.meaning.specs.RuleFile.{ruleOf};
-ghost use Rattle.meaning.specs.FullReading.{freshReading, blank};
+ghost use lib.ListN.{replicate};
+ghost use Rattle.meaning.specs.FullReading.{blank};
 ghost use Rattle.meaning.specs.Calls.{endSays, feedCall, finishFed, largestCeiling};
-ghost use Rattle.meaning.specs.CheckProgram.{programLevels, programFed};
+ghost use Rattle.meaning.specs.CheckProgram.{programLevels};
 ghost use Rattle.program.specs.Passes.{passSays, fedOn};
 
-// The largest ceiling, and where a rule's file has its initial state.
+// The largest ceiling.
 const CEILING: u32 = 0xffff_ffff;
-
-const INITIAL: usize = 7;
 
 // A reading so far: once an event is refused, no more is taken.
 pub struct Pass {
     pub reading: Reading,
     pub ended: Feeding,
     pub levels: [Level; 1024],
-}
-
-// The byte of the initial state, or 0 past the end of the file.
-fn initial_of(file: &[u8]) -> u8
-    ensures { λ r. ⌜ r ≡ getD (now (file .entry)) 7 0 ⌝ }
-{
-    if INITIAL < file.len() {
-        file[INITIAL]
-    } else {
-        0
-    }
-}
-
-// The initial state and four zeros.
-fn first_reading(file: &[u8]) -> Reading
-    ensures { λ r. ⌜ r ≡ freshReading (ruleOf (now (file .entry))) ⌝ }
-{
-    Reading {
-        state: initial_of(file),
-        depth: 0,
-        skip: 0,
-        taken: 0,
-        looks: 0,
-    }
 }
 
 // Levels that hold nothing.
@@ -93,13 +66,13 @@ pub fn go_on(file: &[u8], book: &[u64], pass: Pass, events: &[u16]) -> Pass
     }
 }
 
-// Before the first event: a feed of none.
-pub fn begin(file: &[u8], book: &[u64]) -> Pass
-    ensures { λ r. ⌜ passSays r ≡ programFed (now (file .entry)) (now (book .entry)) [] ⌝ }
+// Before the first event: a feed of none, from the reading that opening gave.
+pub fn begin(file: &[u8], book: &[u64], first: Reading) -> Pass
+    ensures { λ r. ⌜ passSays r ≡ feedCall (now (file .entry)) (now (book .entry)) largestCeiling first (replicate programLevels blank) [] ⌝ }
 {
     let none = [0u16; 1];
     let fresh = Pass {
-        reading: first_reading(file),
+        reading: first,
         ended: Feeding::AllTaken,
         levels: no_levels(),
     };

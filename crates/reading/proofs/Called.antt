@@ -19,9 +19,8 @@ use denote.Slice.{sliceVal}
 use denote.Triple.Spec.{Meets}
 use Rattle.meaning.specs.Answers.{_giving_}
 use Rattle.meaning.specs.RuleFile.{ruleOf}
-use Rattle.meaning.specs.FullReading.{Went, freshReading}
-use Rattle.meaning.specs.SkipBook.{makeBook, bookAfter}
-use Rattle.meaning.specs.Calls.{Stored, endSays, feedingSays, endOf, feedCall, finishCall}
+use Rattle.meaning.specs.FullReading.{Went}
+use Rattle.meaning.specs.Calls.{Stored, openedBook, endSays, feedingSays, endOf, feedCall, finishCall}
 use Rattle.meaning.specs.declared.Feeding.the-variants as feeding
 use Rattle.meaning.specs.declared.Level.{Level}
 use Rattle.meaning.specs.declared.Reading.{Reading}
@@ -36,8 +35,10 @@ use Rattle.rule.specs.declared.Checked.the-variants as answered
 use Rattle.reading.specs.Checks.{readingAnswer}
 use Rattle.reading.specs.Feeding.{FedIs, fedOf}
 use Rattle.turning.specs.Advancing.{rest, startOf, CanGoOn, Gone}
-use Rattle.reading.specs.Whole.{MadeRule}
+use Rattle.reading.specs.Whole.{Begins}
 use Rattle.turning.specs.declared.Going.{Going}
+use Rattle.reading.proofs.document.Begun as Be
+use Rattle.reading.proofs.document.Begun.Laws as Be′
 use Rattle.reading.proofs.FedArray as Fa
 use Rattle.reading.proofs.FedArray.Laws as Fa′
 use Rattle.levels.proofs.Values.{Valued, FitsIn, passed, of-struct, of-enum}
@@ -56,10 +57,8 @@ use Rattle.reading.proofs.feeding.fed_of as fed-of
 use Rattle.reading.proofs.feeding.fed_of.Symbol.{name as #fed-of}
 use Rattle.reading.proofs.ending.end_checked as end-checked
 use Rattle.reading.proofs.ending.end_checked.Symbol.{name as #end-checked}
-use Rattle.reading.proofs.document.make_rule as make-rule
-use Rattle.reading.proofs.document.make_rule.Symbol.{name as #make-rule}
-use Rattle.reading.proofs.document.fresh_reading as fresh-reading
-use Rattle.reading.proofs.document.fresh_reading.Symbol.{name as #fresh-reading}
+use Rattle.reading.proofs.document.begin as begin
+use Rattle.reading.proofs.document.begin.Symbol.{name as #begin}
 use Rattle.reading.proofs.ending.end_fed as end-fed
 use Rattle.reading.proofs.ending.end_fed.Symbol.{name as #end-fed}
 use Rattle.reading.proofs.feed as feed
@@ -69,6 +68,9 @@ use Rattle.reading.proofs.finish.Symbol.{name as #finish}
 
 abbrev pub fed-value : Valued
 fed-value = of-struct Fe.the-type Fe′.the-laws Fe′.the-plain
+
+abbrev pub begun-value : Valued
+begun-value = of-struct Be.the-type Be′.the-laws Be′.the-plain
 
 abbrev pub end-value : Valued
 end-value = of-enum En.the-type En′.the-laws En′.the-plain tt
@@ -121,21 +123,13 @@ module _ {M : Type 1} {𝓤 : URA M} {H : Heap 𝓤} {A : Atoms 𝓤} (W : Given
       (λ z. known (((l .lifetime (z .0), tt), (l .share (z .0), tt), tt, (at-list u8 (l .name (z .0)) b o file, (checked, (r, (top, tt)))), (sliceVal (b, o) n ∷ [], (checked-value .val checked ∷ [], (reading-value .val r ∷ [], (level-value .val top ∷ [], tt))))), tt))
       (λ x ws e. (e, refl))
 
-  pub make-rule-by : (file : List ℕ) (book : List ℕ) → Meets 𝓤 H A make-rule.signature (𝓣 .C #make-rule) (make-rule.spec 𝓤 H A at-mem run) → {b₀ o₀ n₀ b₁ o₁ n₁ : ℕ} (l₀ : ShrLoan 𝓤 H A u8 b₀ o₀ n₀ file) (l₁ : MutLoan 𝓤 H A u64 b₁ o₁ n₁ book)
-      → Gives 𝓤 H A (𝓣 .C #make-rule) (l₀ .before ∷ l₁ .before ∷ []) (sliceVal (b₀, o₀) n₀ ∷ sliceVal (b₁, o₁) n₁ ∷ [])
-      (Said (checked-value .row) (checked-value .val) (λ x. MadeRule file book x (bookAfter (makeBook file book) (ruleOf file) book))) (λ x. checked-value .val (x .answer)) (λ _. l₀ .before ∷ l₁ .after (bookAfter (makeBook file book) (ruleOf file) book) ∷ [])
-  make-rule-by file book known {b₀} {o₀} {n₀} {b₁} {o₁} {n₁} l₀ l₁ =
-      replies-with W 𝓣 #make-rule (lent (as-shr 𝓤 H A u8 b₀ o₀ n₀ file l₀) ∷ lent (as-mut 𝓤 H A u64 b₁ o₁ n₁ book l₁) ∷ []) (checked-value .row) (checked-value .val) (checked-value .tells) (λ x ws. MadeRule file book x (ws .1 .0)) (emp 𝓤) (id⊢ 𝓤 (emp 𝓤)) (λ x. MadeRule file book x (bookAfter (makeBook file book) (ruleOf file) book)) (tt, (bookAfter (makeBook file book) (ruleOf file) book, tt))
-      (λ z. known (((l₀ .lifetime (z .0), (l₁ .lifetime (z .1 .0), tt)), (l₀ .share (z .0), (l₁ .share (z .1 .0), tt)), tt, (at-list u8 (l₀ .name (z .0)) b₀ o₀ file, (at-list u64 (l₁ .name (z .1 .0)) b₁ o₁ book, tt)), (sliceVal (b₀, o₀) n₀ ∷ [], (sliceVal (b₁, o₁) n₁ ∷ [], tt))), tt))
-      (λ x ws e. (subst (MadeRule file book x) (e .bookIs) e, ap (λ (zs : List ℕ). (tt, (zs, tt))) (e .bookIs)))
-
-  pub fresh-reading-by : (rule : Rule) → Meets 𝓤 H A fresh-reading.signature (𝓣 .C #fresh-reading) (fresh-reading.spec 𝓤 H A at-mem run) → FitsIn rule-value rule
-      → Gives 𝓤 H A (𝓣 .C #fresh-reading) ([]) (rule-value .val rule ∷ [])
-      (Said (reading-value .row) (reading-value .val) (λ x. (file : List ℕ) → RuleOf file rule → x ≡ freshReading (ruleOf file))) (λ x. reading-value .val (x .answer)) (λ _. [])
-  fresh-reading-by rule known f0 =
-      replies-with W 𝓣 #fresh-reading (passed rule-value rule f0 ∷ []) (reading-value .row) (reading-value .val) (reading-value .tells) (λ x ws. (file : List ℕ) → RuleOf file rule → x ≡ freshReading (ruleOf file)) (emp 𝓤) (id⊢ 𝓤 (emp 𝓤)) (λ x. (file : List ℕ) → RuleOf file rule → x ≡ freshReading (ruleOf file)) (tt, tt)
-      (λ z. known ((tt, tt, tt, (rule, tt), (rule-value .val rule ∷ [], tt)), tt))
-      (λ x ws e. (e, refl))
+  pub begin-by : (file : List ℕ) (book : List ℕ) (count : ℕ) → Meets 𝓤 H A begin.signature (𝓣 .C #begin) (begin.spec 𝓤 H A at-mem run) → {b₀ o₀ n₀ b₁ o₁ n₁ : ℕ} (l₀ : ShrLoan 𝓤 H A u8 b₀ o₀ n₀ file) (l₁ : MutLoan 𝓤 H A u64 b₁ o₁ n₁ book) → count < 2 ^ 64
+      → Gives 𝓤 H A (𝓣 .C #begin) (l₀ .before ∷ l₁ .before ∷ []) (sliceVal (b₀, o₀) n₀ ∷ sliceVal (b₁, o₁) n₁ ∷ vint w64 count ∷ [])
+      (Said (begun-value .row) (begun-value .val) (λ x. Begins file book count x (openedBook file book))) (λ x. begun-value .val (x .answer)) (λ _. l₀ .before ∷ l₁ .after (openedBook file book) ∷ [])
+  begin-by file book count known {b₀} {o₀} {n₀} {b₁} {o₁} {n₁} l₀ l₁ f2 =
+      replies-with W 𝓣 #begin (lent (as-shr 𝓤 H A u8 b₀ o₀ n₀ file l₀) ∷ lent (as-mut 𝓤 H A u64 b₁ o₁ n₁ book l₁) ∷ number 𝓤 H A W w64 count f2 ∷ []) (begun-value .row) (begun-value .val) (begun-value .tells) (λ x ws. Begins file book count x (ws .1 .0)) (emp 𝓤) (id⊢ 𝓤 (emp 𝓤)) (λ x. Begins file book count x (openedBook file book)) (tt, (openedBook file book, (tt, tt)))
+      (λ z. known (((l₀ .lifetime (z .0), (l₁ .lifetime (z .1 .0), tt)), (l₀ .share (z .0), (l₁ .share (z .1 .0), tt)), tt, (at-list u8 (l₀ .name (z .0)) b₀ o₀ file, (at-list u64 (l₁ .name (z .1 .0)) b₁ o₁ book, (count, tt))), (sliceVal (b₀, o₀) n₀ ∷ [], (sliceVal (b₁, o₁) n₁ ∷ [], (vint w64 count ∷ [], tt)))), tt))
+      (λ x ws e. (subst (Begins file book count x) (e .bookIs) e, ap (λ (zs : List ℕ). (tt, (zs, (tt, tt)))) (e .bookIs)))
 
   pub end-fed-by : (file : List ℕ) (rule : Rule) (going : Going) (top : Level) → Meets 𝓤 H A end-fed.signature (𝓣 .C #end-fed) (end-fed.spec 𝓤 H A at-mem run) → {b o n : ℕ} (l : ShrLoan 𝓤 H A u8 b o n file) → FitsIn rule-value rule → FitsIn going-value going → FitsIn level-value top → (going .ended ≡ feeding.AllTaken → RuleOf file rule × (going .reading .state < rule .states))
       → Gives 𝓤 H A (𝓣 .C #end-fed) (l .before ∷ []) (sliceVal (b, o) n ∷ rule-value .val rule ∷ going-value .val going ∷ level-value .val top ∷ [])

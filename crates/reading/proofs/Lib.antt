@@ -1,4 +1,5 @@
 pub mod Checks
+pub mod Starts
 pub mod WholeRead
 pub mod OneOutcome
 pub mod Passed

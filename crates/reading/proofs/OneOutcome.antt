@@ -1,29 +1,24 @@
 -- Two outcomes that a contract allows agree, for each call: the answer and what every lent slice then holds. The listings
 -- tell the cases of an answer apart, and what a slice holds is an equation.
-use mathlib.Core.Path.{_≡_, sym, ap, _∙_}
+use mathlib.Core.Path.{_≡_, sym, _∙_}
 use mathlib.Core.List.{List}
 use Prim.Native.Nat.{ℕ}
 use Rattle.meaning.specs.FullReading.{Went}
 use Rattle.meaning.specs.Calls as calls
-use Rattle.meaning.specs.Calls.{Stored, refusalSays}
+use Rattle.meaning.specs.Calls.{Stored, openedSays, openCall, openedBook}
+use Rattle.meaning.specs.declared.Opened.{Opened}
 use Rattle.meaning.specs.declared.End.{End}
 use Rattle.meaning.specs.declared.Fed.{Fed}
 use Rattle.meaning.specs.declared.Level.{Level}
 use Rattle.meaning.specs.declared.Reading.{Reading}
-use Rattle.meaning.proofs.stores.OneAnswer.{refusal-says, feeding-says, end-says}
+use Rattle.meaning.proofs.stores.OneAnswer.{opened-says, feeding-says, end-says}
 use Rattle.reading.specs.Feeding.{FedIs}
-use Rattle.reading.specs.Checks.{begunSays}
 use Rattle.reading.specs.Whole.{ReadIs}
-use Rattle.reading.specs.declared.Begun.{Begun}
-use Rattle.reading.specs.declared.Begun.the-variants as begun
 
--- a fresh reading; finish has `end-says`
-pub begun-says : (a b : Begun) → begunSays a ≡ begunSays b → a ≡ b
-unfolding begunSays refusalSays
-begun-says (begun.At a) (begun.At b) e = cc
-begun-says (begun.At a) (begun.Refused b) e = cc
-begun-says (begun.Refused a) (begun.At b) e = cc
-begun-says (begun.Refused a) (begun.Refused b) e = ap begun.Refused (refusal-says a b e)
+-- open has `opened-says`, and the book is an equation; finish has `end-says`
+pub open-one : (file book : List ℕ) (a b : Opened) {b₁ b₂ : List ℕ} → openedSays a ≡ openCall file book → openedSays b ≡ openCall file book
+    → b₁ ≡ openedBook file book → b₂ ≡ openedBook file book → (a ≡ b) × (b₁ ≡ b₂)
+open-one file book a b h k left right = (opened-says a b (h ∙ sym k), left ∙ sym right)
 
 -- feed
 pub fed-one : {w : Went Stored} {before : Reading} {a b : Fed} {s₁ s₂ : List Level}

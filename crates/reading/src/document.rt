@@ -1,40 +1,48 @@
-// Reading a whole document: what the rule check and the maker lead to.
-use book::Made;
-use book::make_book;
-use meaning::Reading;
+// Reading a whole document: where feeding begins once it is opened.
+use crate::checking::rule_in;
+use crate::feeding::started;
+use crate::first_of;
+use crate::open;
+use meaning::Opened;
 use rule::Checked;
 use rule::Rule;
+use turning::Going;
 ghost use mathlib.Core.Path.{_≡_};
 ghost use mathlib.Core.List.{List};
 ghost use Prim.Native.Nat.{ℕ};
-ghost use Rattle.meaning.specs.RuleFile.{ruleOf};
-ghost use Rattle.meaning.specs.FullReading.{freshReading};
-ghost use Rattle.rule.specs.Says.{RuleOf};
-ghost use Rattle.reading.specs.Whole.{MadeRule};
+ghost use Rattle.meaning.specs.Calls.{openedSays};
+ghost use Rattle.rule.specs.Says.{checkedSays, checkAnswer};
+ghost use Rattle.reading.specs.Whole.{checkOpened, Begins};
 
 // The largest ceiling.
 pub const LARGEST_CEILING: u32 = 4294967295;
 
-// The initial state and four zeros.
-pub fn fresh_reading(rule: Rule) -> Reading
-    ensures { λ r. ⌜ ((file : List ℕ) → RuleOf file rule → r ≡ freshReading (ruleOf file)) ⌝ }
+// Where feeding begins, and the rule that it goes by.
+pub struct Begun {
+    pub rule: Rule,
+    pub going: Going,
+}
+
+// What opening refused, or the rule that it opened.
+fn check_opened(file: &[u8], opened: Opened) -> Checked
+    ensures { λ r. ⌜ checkedSays r ≡ checkOpened (checkAnswer (now (file .entry))) opened ⌝ }
 {
-    Reading {
-        state: rule.initial,
-        depth: 0,
-        skip: 0,
-        taken: 0,
-        looks: 0,
+    match opened {
+        Opened::Ready(_) => Rule::of_file(file),
+        Opened::Refused(refusal) => Checked::Refused(refusal),
     }
 }
 
-// The maker, and then the rule of which it made the book, or what it refused. A fresh reading and that book pass every check
-// of feed and finish, so no other is made.
-pub fn make_rule(file: &[u8], book: &mut [u64]) -> Checked
-    ensures { λ r. ⌜ MadeRule (now (file .entry)) (now (book .entry)) r (now (book .exit)) ⌝ }
+// The document is opened: feeding begins before the first of so many events, or after the last where opening refused. The
+// reading that opening gave and the book that it wrote pass every check of feed and finish, so no other is made.
+pub fn begin(file: &[u8], book: &mut [u64], count: usize) -> Begun
+    ensures { λ r. ⌜ Begins (now (file .entry)) (now (book .entry)) count r (now (book .exit)) ⌝ }
 {
-    match make_book(file, book) {
-        Made::Refused(refusal) => Checked::Refused(refusal),
-        Made::Still(_) => Rule::of_file(file),
+    let opened = open(file, book);
+    let checked = check_opened(file, opened);
+    let first = first_of(opened);
+    Begun {
+        rule: rule_in(checked),
+        going: started(checked, first, count),
     }
 }

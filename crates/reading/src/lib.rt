@@ -1,15 +1,15 @@
-// The calls of a reading over the lent level store: a fresh reading, feed, finish and the whole document. What one event leads
-// to is found by value, in `turning`; here it is stored, and the calls check what they are handed.
+// The calls of a reading over the lent level store: open, feed, finish and the whole document. What one event leads to is found
+// by value, in `turning`; here it is stored, and the calls check what they are handed.
 mod checking;
 mod document;
 mod ending;
 mod feeding;
+mod opening;
 
 use checking::admit;
 use checking::rule_in;
 use document::LARGEST_CEILING;
-use document::fresh_reading;
-use document::make_rule;
+use document::begin;
 use ending::end_checked;
 use ending::end_fed;
 use feeding::fed_of;
@@ -18,24 +18,17 @@ use feeding::started;
 use levels::level_at;
 use meaning::End;
 use meaning::Fed;
-use meaning::Feeding;
 use meaning::Level;
+use meaning::Opened;
 use meaning::Reading;
-use meaning::Refusal;
+use opening::open_rule;
 use rule::Checked;
 use rule::Rule;
 use turning::advancing::top_place;
 ghost use mathlib.Core.Path.{_≡_};
-ghost use Rattle.meaning.specs.Calls.{endSays, feedCall, finishCall, freshCall, wholeDocument};
+ghost use Rattle.meaning.specs.Calls.{openedSays, openCall, openedBook, endSays, feedCall, finishCall, wholeDocument};
 ghost use Rattle.reading.specs.Feeding.{FedIs};
-ghost use Rattle.reading.specs.Checks.{begunSays};
-ghost use Rattle.reading.specs.Whole.{ReadIs};
-
-// What a fresh reading answers: the reading, or the refusal of the rule.
-pub enum Begun {
-    At(Reading),
-    Refused(Refusal),
-}
+ghost use Rattle.reading.specs.Whole.{openedReading, ReadIs};
 
 // What feeding answers over levels of one's own: the answer, and the levels after it.
 pub struct FedArray {
@@ -43,13 +36,31 @@ pub struct FedArray {
     pub levels: [Level; 1024],
 }
 
-// A fresh reading of a rule, given as the bytes of its file.
-pub fn fresh(file: &[u8]) -> Begun
-    ensures { λ r. ⌜ begunSays r ≡ freshCall (now (file .entry)) ⌝ }
+// Open a rule, given as the bytes of its file: the lent book is filled, and the answer is the fresh reading and how many states
+// are still. Whoever feeds that reading with that book skips; with a book of zeros it is read in full.
+pub fn open(file: &[u8], book: &mut [u64]) -> Opened
+    ensures { λ r. ⌜ openedSays r ≡ openCall (now (file .entry)) (now (book .entry)) ⌝ }
+    ensures { λ r. ⌜ now (book .exit) ≡ openedBook (now (file .entry)) (now (book .entry)) ⌝ }
 {
     match Rule::of_file(file) {
-        Checked::Fine(rule) => Begun::At(fresh_reading(rule)),
-        Checked::Refused(refusal) => Begun::Refused(refusal),
+        Checked::Refused(refusal) => Opened::Refused(refusal),
+        Checked::Fine(rule) => open_rule(file, rule, book),
+    }
+}
+
+// The reading that opening gave, or five zeros where it refused.
+pub fn first_of(opened: Opened) -> Reading
+    ensures { λ r. ⌜ r ≡ openedReading opened ⌝ }
+{
+    match opened {
+        Opened::Ready(opening) => opening.reading,
+        Opened::Refused(_) => Reading {
+            state: 0,
+            depth: 0,
+            skip: 0,
+            taken: 0,
+            looks: 0,
+        },
     }
 }
 
@@ -104,24 +115,21 @@ pub fn finish_array(file: &[u8], book: &[u64], reading: Reading, levels: [Level;
     finish(file, book, reading, &levels)
 }
 
-// A whole document: the rule check, the maker, feed and finish in turn, with the largest ceiling.
+// A whole document: it opens, feeds and finishes, with the largest ceiling.
 pub fn read_document(file: &[u8], book: &mut [u64], levels: &mut [Level], events: &[u16]) -> End
     ensures { λ r. ⌜ ReadIs (wholeDocument (now (file .entry)) (now (book .entry)) (now (levels .entry)) (now (events .entry))) r (now (book .exit)) (now (levels .exit)) ⌝ }
 {
-    let checked = make_rule(file, &mut *book);
-    let rule = rule_in(checked);
-    let first = fresh_reading(rule);
-    let going = started(checked, first, events.len());
+    let begun = begin(file, &mut *book, events.len());
     let last = feed_loop(
         file,
-        rule,
+        begun.rule,
         &*book,
         LARGEST_CEILING,
-        going,
+        begun.going,
         &mut *levels,
         events,
     );
     let place = top_place(last.reading);
     let top = level_at(&*levels, place);
-    end_fed(file, rule, last, top)
+    end_fed(file, begun.rule, last, top)
 }

@@ -8,9 +8,10 @@ use native.Mathlib.Omega.{arith}
 use lib.ListN.{length, take, drop, length-append, take-append-drop}
 use lib.Seq.{take-take, take-append-le, drop-append-le, length-take-le}
 use Rattle.meaning.specs.Answers.{given}
-use Rattle.meaning.specs.RuleFile.{headerLength}
+use Rattle.meaning.specs.RuleFile.{headerLength, ruleOf, checkRule}
 use Rattle.meaning.specs.CheckProgram.{EventsAt, frontLength, frontCheck}
-use Rattle.meaning.proofs.program.Fifth.{found, header-says, front-join, front-more}
+use Rattle.meaning.proofs.rulefile.Accepted.{accepted-rule}
+use Rattle.meaning.proofs.program.Fifth.{found, fifth-file, header-says, front-join, front-more}
 use Rattle.program.specs.declared.body.Body.{Body}
 use Rattle.program.specs.Bodies.{blockLength, programBook, Took, HasRead}
 use Rattle.rule_check.specs.declared.blocks.Going.{Going}
@@ -88,6 +89,12 @@ module _ (front : List ℕ) (place size : ℕ) (there : frontCheck front ≡ giv
   -- the header stands within the front
   pub start-in : start ≤ length front
   start-in = header-says front place (found front there .header) .0
+
+  -- and the bytes before it are an accepted file
+  pub file-accepted : checkRule (take place front) ≡ given (ruleOf (take place front))
+  file-accepted =
+      let a : checkRule (take place front) ≡ given (ruleOf front) = fifth-file front place (found front there .after) in
+      a ∙ ap given (sym (accepted-rule (take place front) a))
 
   pub has-read : (file book : List ℕ) (body : Body) (new : List ℕ) → file ≡ take place front → book ≡ programBook file
       → Took file book size body (drop start front ++ new)

@@ -90,10 +90,11 @@ pub fn run(front: &[u8], at: EventsAt) -> Answer
     let size = at.size;
     let start = place + HEADER;
     let file = &front[..place];
-    let book = body::own_book(file);
+    let opened = body::open(file);
+    let book = opened.book;
     let mut block = [0u8; BLOCK];
     let there = body::carry(&front[start..], &mut block);
-    let begun = body::begin(file, &book);
+    let begun = body::begin(file, &book, opened.first);
     let first = one_block(file, &book, size, begun, &mut block, there);
     let last = read_body(file, &book, size, first, &mut block);
     let body = last.body;

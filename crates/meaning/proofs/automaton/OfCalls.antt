@@ -1,4 +1,4 @@
--- Full reading by the calls and the automaton: a fresh reading, fed and finished with a book of zeros, ends with a verdict exactly if
+-- Full reading by the calls and the automaton: a reading that was opened, fed and finished with a book of zeros ends with a verdict exactly if
 -- the events are those of a hedge by which the automaton goes from the initial state to the end state, the class is that state's,
 -- and level store, ceiling and event limit suffice. So a full verdict says that the stream is well nested, of known events.
 use mathlib.Core.Path.{_≡_, refl, sym, ap, _∙_}
@@ -10,18 +10,20 @@ use native.Mathlib.Omega.{arith}
 use lib.ListN.{length}
 use borrow.Author.Tests.{ltb-false, le-ltb}
 use Rattle.meaning.specs.declared.Level.{Level}
+use Rattle.meaning.specs.declared.Opening.{Opening}
 use Rattle.meaning.specs.Answers.{given, _<?_}
-use Rattle.meaning.specs.RuleFile.{Rule, classOf, checkRule}
+use Rattle.meaning.specs.RuleFile.{Rule, classOf, ruleOf}
 use Rattle.meaning.specs.FullReading.{Went, Run, freshReading, freshRun, fullRun}
 use Rattle.meaning.specs.Hedges.{wellNested}
 use Rattle.meaning.specs.StreamingMachine.{Streams, aboves, WithinLimits}
 use Rattle.meaning.specs.Skipping.{Zeros}
-use Rattle.meaning.specs.Calls.{Judged, endOf, endOfRun, ReadsTo}
+use Rattle.meaning.specs.Calls.{Judged, openCall, endOf, endOfRun, ReadsTo}
 use Rattle.meaning.specs.Demands.{FollowsAutomaton}
 use Rattle.meaning.proofs.laws.Answered.{refuse-given, refuse-passes}
 use Rattle.meaning.proofs.automaton.Automaton.{goes-known}
 use Rattle.meaning.proofs.automaton.Nested.{hedge-nested}
 use Rattle.meaning.proofs.automaton.Streaming.{full-is-machine, full-arrives, full-skips-nothing, goes-streams, streams-hedge}
+use Rattle.meaning.proofs.stores.Opens.{open-says}
 use Rattle.meaning.proofs.demand3.Demand3Calls.{full-by-calls, calls-by-full}
 
 -- a stack of no levels is of no states, and the other way round
@@ -75,21 +77,26 @@ module _ (R : Rule) (room ceiling : ℕ) (events : List ℕ) where
             ∙ rw (there .inState, ← f .classIs),
       )
 
--- Demand 2: a reading by the calls with a book of zeros ends with a verdict exactly if the automaton goes there.
-module _ (file zeros : List ℕ) (store : List Level) (ceiling : ℕ) (events : List ℕ) {R : Rule}
-    (accepted : checkRule file ≡ given R) (long : R .states + 1 ≤ length zeros) (empty : Zeros zeros) (j : Judged) where
-  pub full-verdict-exactly-if : ReadsTo file zeros store ceiling events R j ↔ FollowsAutomaton R (length store) ceiling events j
-  full-verdict-exactly-if = (
-    λ reads.
-        let full = full-by-calls file zeros store ceiling events accepted long empty reads in
-        follows R (length store) ceiling events j (full .0) (full .1),
-    λ f.
-        let full = followed R (length store) ceiling events j f in
-        calls-by-full file zeros store ceiling events accepted long empty (full .0) (full .1),
-  )
+-- Demand 2: a reading by the calls, opened and then fed and finished with a book of zeros, ends with a verdict exactly if the
+-- automaton goes there.
+module _ (file lent zeros : List ℕ) (store : List Level) (ceiling : ℕ) (events : List ℕ) {o : Opening}
+    (opened : openCall file lent ≡ given o) (long : ruleOf file .states + 1 ≤ length zeros) (empty : Zeros zeros) (j : Judged) where
+  abbrev R : Rule
+  R = ruleOf file
+
+  pub full-verdict-exactly-if : ReadsTo file zeros (o .reading) store ceiling events j ↔ FollowsAutomaton R (length store) ceiling events j
+  full-verdict-exactly-if =
+      let says = open-says file lent opened in (
+        λ reads.
+            let full = full-by-calls file zeros store ceiling events (says .accepted) long empty (rw (says .firstIs) at reads) in
+            follows R (length store) ceiling events j (full .0) (full .1),
+        λ f.
+            let full = followed R (length store) ceiling events j f in
+            rw (says .firstIs) (calls-by-full file zeros store ceiling events (says .accepted) long empty (full .0) (full .1)),
+      )
 
   -- so the stream is well nested, of known events
-  pub full-verdict-nested : ReadsTo file zeros store ceiling events R j → wellNested (R .letters) events ≡ true
+  pub full-verdict-nested : ReadsTo file zeros (o .reading) store ceiling events j → wellNested (R .letters) events ≡ true
   full-verdict-nested reads =
       let f = full-verdict-exactly-if .0 reads in
       rw (f .itsEvents) at (hedge-nested (R .letters) (f .hedge) (goes-known (f .goes)))

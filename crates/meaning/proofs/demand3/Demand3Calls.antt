@@ -1,6 +1,6 @@
--- Demand 3 about the calls themselves: for every file accepted and the book the maker writes for it, every stream of events,
--- every level store and every ceiling. A feed over the lent store is a run over levels, and with a book of zeros it is full
--- reading; so what is proved of runs is proved of the calls.
+-- Demand 3 about the calls themselves: for every file that is opened, the book that opening wrote and the reading that it gave,
+-- every stream of events, every level store and every ceiling. A feed over the lent store is a run over levels, and with a book
+-- of zeros it is full reading; so what is proved of runs is proved of the calls.
 use mathlib.Core.Path.{_≡_, refl, sym, ap, ap₂, _∙_}
 use mathlib.Core.List.{List}
 use Prim.Native.Nat.{ℕ, zero, suc, _+_, _-_, _≤_, _<_}
@@ -8,19 +8,17 @@ use native.Mathlib.Omega.{arith}
 use lib.ListN.{length, getD, drop}
 use Rattle.meaning.specs.declared.Reading.{Reading}
 use Rattle.meaning.specs.declared.Level.{Level}
+use Rattle.meaning.specs.declared.Opening.{Opening}
 use Rattle.meaning.specs.Answers.{given, if_then_else_, _<?_}
 use Rattle.meaning.specs.RuleFile.{Rule, checkRule, ruleOf}
 use Rattle.meaning.specs.FullReading.{Went, Run, innermost, freshReading, blank, feedBy, freshRun, fullRun}
-use Rattle.meaning.specs.SkipBook.{IsBook, makeBook, bookAfter, madeBook}
-use Rattle.meaning.specs.Calls.{Judged, Stored, storeStep, topOf, openPlace, endOf, feedCall, finishCall, readingCheck, endOfRun, ReadsTo}
+use Rattle.meaning.specs.Calls.{Judged, Stored, openCall, openedBook, storeStep, topOf, openPlace, endOf, feedCall, finishCall, readingCheck, endOfRun, ReadsTo}
 use Rattle.meaning.specs.Skipping.{skipRun, Zeros}
 use Rattle.meaning.specs.Demands.{EndsAsFull}
 use Rattle.meaning.proofs.rulefile.Accepted.{accepted-is-rule}
-use Rattle.meaning.proofs.skipbook.BookMade.{maker-writes}
-use Rattle.meaning.proofs.skipbook.Rounds.{never-used-up}
 use Rattle.meaning.proofs.stores.ReadingCheck.{feed-checked, finish-checked, fed-checked}
 use Rattle.meaning.proofs.stores.StoreView.{levelsOf, OneView, store-is-levels}
-use Rattle.meaning.proofs.stores.Whole.{maker-gave, made-length, fresh-checked}
+use Rattle.meaning.proofs.stores.Opens.{fresh-checked, open-says, opened-long, open-writes}
 use Rattle.meaning.proofs.stores.ZeroBook.{zero-book}
 use Rattle.meaning.proofs.demand3.Demand3.{demand-3}
 
@@ -90,40 +88,42 @@ module _ (file book : List ℕ) (store : List Level) (ceiling : ℕ) (events : L
   finish-full =
       finish-is-end file book store ceiling events accepted long ∙ ap (λ (w : Went Run). endOfRun R (w .last)) is-full
 
-  pub full-by-calls : {j : Judged} → ReadsTo file book store ceiling events R j
+  pub full-by-calls : {j : Judged} → ReadsTo file book (freshReading R) store ceiling events j
       → (inFull .ended ≡ given tt) × (endOfRun R (inFull .last) ≡ given j)
   full-by-calls reads = (sym ended-full ∙ reads .takesAll, sym finish-full ∙ reads .verdict)
 
   pub calls-by-full : {j : Judged} → inFull .ended ≡ given tt → endOfRun R (inFull .last) ≡ given j
-      → ReadsTo file book store ceiling events R j
+      → ReadsTo file book (freshReading R) store ceiling events j
   calls-by-full all judged = record { takesAll = ended-full ∙ all; verdict = finish-full ∙ judged }
 
--- Demand 3: wherever full reading ends with a verdict under some level store and ceiling, skipping with the book that the maker
--- wrote ends so under the same.
-pub demand-3-calls : (file lent : List ℕ) (store : List Level) (ceiling : ℕ) (events : List ℕ) {count : ℕ} {j : Judged}
-    → makeBook file lent ≡ given count
+-- Demand 3: wherever full reading ends with a verdict under some level store and ceiling, skipping with the book that opening
+-- wrote, from the reading that it gave, ends so under the same.
+pub demand-3-calls : (file lent : List ℕ) (store : List Level) (ceiling : ℕ) (events : List ℕ) {o : Opening} {j : Judged}
+    → openCall file lent ≡ given o
     → fullRun (ruleOf file) (length store) ceiling events .ended ≡ given tt
     → endOfRun (ruleOf file) (fullRun (ruleOf file) (length store) ceiling events .last) ≡ given j
-    → EndsAsFull file lent store ceiling events j
-demand-3-calls file lent store ceiling events made all judged =
-    let book : List ℕ = madeBook file lent in
-    let m = maker-gave file lent made in
-    let long : ruleOf file .states + 1 ≤ length book = omega (arith, made-length file lent made, m .longEnough) in
-    let alike = demand-3 (accepted-is-rule file (m .accepted)) (maker-writes file lent made) (length store) ceiling events all judged in
-    let one = fed-is-run file book store ceiling events (m .accepted) long in
-    record {
+    → EndsAsFull file lent (o .reading) store ceiling events j
+demand-3-calls file lent store ceiling events opened all judged =
+    let book : List ℕ = openedBook file lent in
+    let says = open-says file lent opened in
+    let long = opened-long file lent opened in
+    let alike = demand-3 (accepted-is-rule file (says .accepted)) (open-writes file lent opened) (length store) ceiling events all judged in
+    let one = fed-is-run file book store ceiling events (says .accepted) long in
+    rw (says .firstIs)
+    (record {
       reads = record {
         takesAll = one .ended ∙ alike .takesAll;
-        verdict = finish-is-end file book store ceiling events (m .accepted) long ∙ alike .verdict;
+        verdict = finish-is-end file book store ceiling events (says .accepted) long ∙ alike .verdict;
       };
       looks = ap (λ (r : Reading). r .looks) (one .reading) ∙ alike .looks;
       few = alike .few;
-    }
+    })
 
--- the same, with full reading made by the calls with a book of zeros
-pub demand-3-by-calls : (file lent zeros : List ℕ) (store : List Level) (ceiling : ℕ) (events : List ℕ) {count : ℕ} {j : Judged}
-    → makeBook file lent ≡ given count → ruleOf file .states + 1 ≤ length zeros → Zeros zeros
-    → ReadsTo file zeros store ceiling events (ruleOf file) j → EndsAsFull file lent store ceiling events j
-demand-3-by-calls file lent zeros store ceiling events made long empty reads =
-    let full = full-by-calls file zeros store ceiling events (maker-gave file lent made .accepted) long empty reads in
-    demand-3-calls file lent store ceiling events made (full .0) (full .1)
+-- the same, with full reading made by the calls: from the same reading, with a book of zeros
+pub demand-3-by-calls : (file lent zeros : List ℕ) (store : List Level) (ceiling : ℕ) (events : List ℕ) {o : Opening} {j : Judged}
+    → openCall file lent ≡ given o → ruleOf file .states + 1 ≤ length zeros → Zeros zeros
+    → ReadsTo file zeros (o .reading) store ceiling events j → EndsAsFull file lent (o .reading) store ceiling events j
+demand-3-by-calls file lent zeros store ceiling events opened long empty reads =
+    let says = open-says file lent opened in
+    let full = full-by-calls file zeros store ceiling events (says .accepted) long empty (rw (says .firstIs) at reads) in
+    demand-3-calls file lent store ceiling events opened (full .0) (full .1)

@@ -11,18 +11,18 @@ use lib.ListN.{length, getD, take, drop, take-append-drop}
 use lib.Seq.{take-suc}
 use Rattle.meaning.specs.declared.Reading.{Reading}
 use Rattle.meaning.specs.declared.Level.{Level}
+use Rattle.meaning.specs.declared.Opening.{Opening}
 use Rattle.meaning.specs.Answers.{Answer, given, refused, if_then_else_}
 use Rattle.meaning.specs.RuleFile.{Rule, IsRule, ruleOf}
-use Rattle.meaning.specs.FullReading.{Run, Went, goOn, feedBy, freshReading, fullStep, freshRun, fullRun}
-use Rattle.meaning.specs.SkipBook.{IsBook, makeBook, madeBook}
+use Rattle.meaning.specs.FullReading.{Run, Went, goOn, feedBy, fullStep, freshRun, fullRun}
+use Rattle.meaning.specs.SkipBook.{IsBook}
 use Rattle.meaning.specs.PassedOver.{passedOver, thenCount, notPassedOver}
 use Rattle.meaning.specs.Demands.{SoFar}
-use Rattle.meaning.specs.Calls.{Judged, feedCall, endOfRun, ReadsTo}
+use Rattle.meaning.specs.Calls.{Judged, openCall, openedBook, feedCall, endOfRun, ReadsTo}
 use Rattle.meaning.specs.Skipping.{Zeros, skipRun}
 use Rattle.meaning.proofs.laws.FeedLaws.{feed-split}
 use Rattle.meaning.proofs.rulefile.Accepted.{accepted-is-rule}
-use Rattle.meaning.proofs.skipbook.BookMade.{maker-writes}
-use Rattle.meaning.proofs.stores.Whole.{maker-gave, made-length}
+use Rattle.meaning.proofs.stores.Opens.{open-says, opened-long, open-writes}
 use Rattle.meaning.proofs.demand3.Demand3.{Agrees, skipping-agrees}
 use Rattle.meaning.proofs.demand3.Demand3Calls.{fed-is-run, full-by-calls}
 
@@ -96,46 +96,46 @@ module _ {R : Rule} {book : List ℕ} (rule : IsRule R) (own : IsBook R book) (r
 
 -- ---- of the calls
 
-module _ (file lent : List ℕ) (store : List Level) (ceiling : ℕ) (events : List ℕ) {count : ℕ} (made : makeBook file lent ≡ given count)
+module _ (file lent : List ℕ) (store : List Level) (ceiling : ℕ) (events : List ℕ) {o : Opening} (opened : openCall file lent ≡ given o)
     (all : fullRun (ruleOf file) (length store) ceiling events .ended ≡ given tt) where
   -- Demand 3 after every first part, wherever full reading takes all events
-  pub demand-3-so-far : (i : ℕ) → SoFar file lent store ceiling (take i events)
+  pub demand-3-so-far : (i : ℕ) → SoFar file lent (o .reading) store ceiling (take i events)
   demand-3-so-far i =
-      let book : List ℕ = madeBook file lent in
-      let m = maker-gave file lent made in
-      let long : ruleOf file .states + 1 ≤ length book = omega (arith, made-length file lent made, m .longEnough) in
+      let says = open-says file lent opened in
       let agrees =
-      agrees-so-far (accepted-is-rule file (m .accepted)) (maker-writes file lent made) (length store) ceiling events all i in
-      let one = fed-is-run file book store ceiling (take i events) (m .accepted) long in
-      record {
+      agrees-so-far (accepted-is-rule file (says .accepted)) (open-writes file lent opened) (length store) ceiling events all i in
+      let one = fed-is-run file (openedBook file lent) store ceiling (take i events) (says .accepted) (opened-long file lent opened) in
+      rw (says .firstIs)
+      (record {
         takesAll = one .ended ∙ agrees .takesAll;
         looks = ap (λ (r : Reading). r .looks) (one .reading) ∙ agrees .looks;
-      }
+      })
 
   -- the event at place i is a look of skipping exactly if full reading does not mark it as passed over
   pub look-exactly-if : (i : ℕ) → i < length events
-      → feedCall file (madeBook file lent) ceiling (freshReading (ruleOf file)) store (take (i + 1) events) .last .reading .looks
-      ≡ feedCall file (madeBook file lent) ceiling (freshReading (ruleOf file)) store (take i events) .last .reading .looks
-      + (if passedOver (madeBook file lent) (fullRun (ruleOf file) (length store) ceiling (take i events) .last) (getD events i 0)
+      → feedCall file (openedBook file lent) ceiling (o .reading) store (take (i + 1) events) .last .reading .looks
+      ≡ feedCall file (openedBook file lent) ceiling (o .reading) store (take i events) .last .reading .looks
+      + (if passedOver (openedBook file lent) (fullRun (ruleOf file) (length store) ceiling (take i events) .last) (getD events i 0)
       then 0 else 1)
   look-exactly-if i h =
       rw (demand-3-so-far (i + 1) .looks, demand-3-so-far i .looks)
-      (not-passed-over-next (ruleOf file) (madeBook file lent) (length store) ceiling (freshRun (ruleOf file)) events i h
+      (not-passed-over-next (ruleOf file) (openedBook file lent) (length store) ceiling (freshRun (ruleOf file)) events i h
       (part-taken (fullStep (ruleOf file) (length store) ceiling) (freshRun (ruleOf file)) events i all))
 
 -- with the premises of demand 3: full reading ends with a verdict
-pub demand-3-every-part : (file lent : List ℕ) (store : List Level) (ceiling : ℕ) (events : List ℕ) {count : ℕ} {j : Judged}
-    → makeBook file lent ≡ given count
+pub demand-3-every-part : (file lent : List ℕ) (store : List Level) (ceiling : ℕ) (events : List ℕ) {o : Opening} {j : Judged}
+    → openCall file lent ≡ given o
     → fullRun (ruleOf file) (length store) ceiling events .ended ≡ given tt
     → endOfRun (ruleOf file) (fullRun (ruleOf file) (length store) ceiling events .last) ≡ given j
-    → (i : ℕ) → SoFar file lent store ceiling (take i events)
-demand-3-every-part file lent store ceiling events made all judged = demand-3-so-far file lent store ceiling events made all
+    → (i : ℕ) → SoFar file lent (o .reading) store ceiling (take i events)
+demand-3-every-part file lent store ceiling events opened all judged = demand-3-so-far file lent store ceiling events opened all
 
--- the same, with full reading made by the calls with a book of zeros
-pub demand-3-every-part-by-calls : (file lent zeros : List ℕ) (store : List Level) (ceiling : ℕ) (events : List ℕ) {count : ℕ} {j : Judged}
-    → makeBook file lent ≡ given count → ruleOf file .states + 1 ≤ length zeros → Zeros zeros
-    → ReadsTo file zeros store ceiling events (ruleOf file) j
-    → (i : ℕ) → SoFar file lent store ceiling (take i events)
-demand-3-every-part-by-calls file lent zeros store ceiling events made long empty reads =
-    demand-3-so-far file lent store ceiling events made
-    (full-by-calls file zeros store ceiling events (maker-gave file lent made .accepted) long empty reads .0)
+-- the same, with full reading made by the calls: from the same reading, with a book of zeros
+pub demand-3-every-part-by-calls : (file lent zeros : List ℕ) (store : List Level) (ceiling : ℕ) (events : List ℕ) {o : Opening} {j : Judged}
+    → openCall file lent ≡ given o → ruleOf file .states + 1 ≤ length zeros → Zeros zeros
+    → ReadsTo file zeros (o .reading) store ceiling events j
+    → (i : ℕ) → SoFar file lent (o .reading) store ceiling (take i events)
+demand-3-every-part-by-calls file lent zeros store ceiling events opened long empty reads =
+    let says = open-says file lent opened in
+    demand-3-so-far file lent store ceiling events opened
+    (full-by-calls file zeros store ceiling events (says .accepted) long empty (rw (says .firstIs) at reads) .0)

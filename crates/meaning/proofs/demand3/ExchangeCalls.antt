@@ -1,6 +1,6 @@
 -- The exchange of demand 3 about the calls themselves: a well-nested part that feeding takes on a settled level, exchanged for any
--- other well-nested run of known events within the event limit, leaves verdict, state and looks as they were. It holds with
--- any book that is long enough, and so with the rule's own.
+-- other well-nested run of known events within the event limit, leaves verdict, state and looks as they were. It holds from the
+-- reading that opening gave with any book that is long enough, and so with the one that it wrote.
 use mathlib.Core.Path.{_≡_, refl, sym, ap, ap₂, _∙_}
 use mathlib.Core.Bool.{true, _&&_}
 use mathlib.Core.List.{List, _++_}
@@ -9,15 +9,17 @@ use native.Mathlib.Omega.{arith}
 use lib.ListN.{length, getD}
 use Rattle.meaning.specs.declared.Reading.{Reading}
 use Rattle.meaning.specs.declared.Level.{Level}
+use Rattle.meaning.specs.declared.Opening.{Opening}
 use Rattle.meaning.specs.Answers.{given, _<?_}
-use Rattle.meaning.specs.RuleFile.{Rule, checkRule}
-use Rattle.meaning.specs.FullReading.{Went, innermost, blank, freshReading, mostEvents}
+use Rattle.meaning.specs.RuleFile.{Rule, ruleOf}
+use Rattle.meaning.specs.FullReading.{Went, innermost, blank, mostEvents}
 use Rattle.meaning.specs.Hedges.{wellNested}
 use Rattle.meaning.specs.SkipBook.{inHold}
 use Rattle.meaning.specs.Skipping.{held, settled, skipRun}
 use Rattle.meaning.specs.PassedOver.{PassedOverPart}
 use Rattle.meaning.specs.Demands.{ReadsSame}
-use Rattle.meaning.specs.Calls.{Judged, Stored, topOf, feedCall, finishCall, endOfRun, ReadsTo}
+use Rattle.meaning.specs.Calls.{Judged, Stored, openCall, topOf, feedCall, finishCall, endOfRun, ReadsTo}
+use Rattle.meaning.proofs.stores.Opens.{open-says}
 use Rattle.meaning.proofs.stores.StoreView.{levelsOf, OneView}
 use Rattle.meaning.proofs.demand3.Exchange.{exchange}
 use Rattle.meaning.proofs.demand3.Demand3Calls.{fed-is-run, finish-is-end}
@@ -37,17 +39,25 @@ settled-same : (book : List ℕ) (r : Reading) (store : List Level)
 unfolding settled held topOf
 settled-same book r store = rw (held-same book (r .state) (r .depth) store)
 
-module _ (file book : List ℕ) (store : List Level) (ceiling : ℕ) {R : Rule}
-    (accepted : checkRule file ≡ given R) (long : R .states + 1 ≤ length book) where
+module _ (file lent book : List ℕ) (store : List Level) (ceiling : ℕ) {o : Opening}
+    (opened : openCall file lent ≡ given o) (long : ruleOf file .states + 1 ≤ length book) where
+  abbrev R : Rule
+  R = ruleOf file
+
+  -- what feeding from the reading that opening gave comes to
   abbrev fed : List ℕ → Went Stored
-  fed events = feedCall file book ceiling (freshReading R) store events
+  fed events = feedCall file book ceiling (o .reading) store events
 
   view : (events : List ℕ) → OneView (length store) (fed events) (skipRun R book (length store) ceiling events)
-  view events = fed-is-run file book store ceiling events accepted long
+  view events =
+      let says = open-says file lent opened in
+      rw (says .firstIs) (fed-is-run file book store ceiling events (says .accepted) long)
 
   end : (events : List ℕ) → finishCall file book (fed events .last .reading) (fed events .last .store)
       ≡ endOfRun R (skipRun R book (length store) ceiling events .last)
-  end events = finish-is-end file book store ceiling events accepted long
+  end events =
+      let says = open-says file lent opened in
+      rw (says .firstIs) (finish-is-end file book store ceiling events (says .accepted) long)
 
   -- after a feed that took all its events and left a settled level, a well-nested run is a passed-over part
   pub part-by-calls : (xs ys : List ℕ) → fed xs .ended ≡ given tt
@@ -63,8 +73,8 @@ module _ (file book : List ℕ) (store : List Level) (ceiling : ℕ) {R : Rule}
 
   pub exchange-calls : (xs ys ys′ zs : List ℕ) {j : Judged} → PassedOverPart R book (length store) ceiling xs ys
       → wellNested (R .letters) ys′ ≡ true → length (xs ++ (ys′ ++ zs)) ≤ mostEvents
-      → ReadsTo file book store ceiling (xs ++ (ys ++ zs)) R j
-      → ReadsSame file book store ceiling (xs ++ (ys ++ zs)) (xs ++ (ys′ ++ zs)) R j
+      → ReadsTo file book (o .reading) store ceiling (xs ++ (ys ++ zs)) j
+      → ReadsSame file book (o .reading) store ceiling (xs ++ (ys ++ zs)) (xs ++ (ys′ ++ zs)) j
   exchange-calls xs ys ys′ zs part nested′ limit reads =
       let same =
       exchange R book (length store) ceiling xs ys ys′ zs part nested′ limit

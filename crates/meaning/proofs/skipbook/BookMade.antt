@@ -1,6 +1,6 @@
 -- The book of a rule is its skip book: its sets are the rule's own still and hold(u). A word has the bits of its marks, the
 -- marks test all of Reach, and the marks of Reach are Reach.
-use mathlib.Core.Path.{_≡_, sym, ap, _∙_, subst}
+use mathlib.Core.Path.{_≡_, sym, ap, _∙_}
 use mathlib.Core.Logic.{_↔_}
 use mathlib.Core.Bool.{Bool, true, not, _||_}
 use mathlib.Core.List.{List, _++_}
@@ -10,11 +10,10 @@ use lib.Count.{ones}
 use lib.ListN.{length, getD, drop, List·getD-append}
 use lib.Pow.{pow-pos}
 use borrow.Author.Tests.{eqb-true, eq-eqb}
-use Rattle.meaning.specs.Answers.{given, _=?_}
-use Rattle.meaning.specs.RuleFile.{Rule, IsRule, treeMove, checkRule, ruleOf}
+use Rattle.meaning.specs.Answers.{Answer, given, refused, _=?_}
+use Rattle.meaning.specs.RuleFile.{Rule, IsRule, treeMove}
 use Rattle.meaning.specs.SkipBook.{Reach, Still, Hold, noneOr, allBelow, listed, marked, reachMarks, stillMarks, holdMarks, wordOf, bit, bookOf, inStill, inHold, IsBook, makeBook, bookAfter}
-use Rattle.meaning.proofs.laws.Answered.{refuse-passes, giving-given, giving-passes}
-use Rattle.meaning.proofs.rulefile.Accepted.{accepted-rule, accepted-is-rule}
+use Rattle.meaning.proofs.laws.Answered.{refuse-passes}
 use Rattle.meaning.proofs.laws.Truths.{implied, implies}
 use Rattle.meaning.proofs.laws.Bools.{all-below, below-all, listed-length, listed-at}
 use Rattle.meaning.proofs.skipbook.BookLong.{long-passes}
@@ -91,7 +90,7 @@ module _ (R : Rule) (rule : IsRule R) where
       let at = marked-below (R .states) (λ p. allBelow (R .states) (λ p′. not (marked (reachMarks R p) p′) || noneOr u (treeMove R u p′))) p h in
       iff at both
 
-  -- the book that the maker writes is the rule's skip book, whatever stands after it
+  -- the words of the rule are its skip book, whatever stands after them
   pub made-is-book : (rest : List ℕ) → IsBook R (bookOf R ++ rest)
   made-is-book rest =
       record {
@@ -99,22 +98,20 @@ module _ (R : Rule) (rule : IsRule R) where
         holdIs = λ u p hu hp. iff (in-hold R rest u p hu) (hold-is u p hp);
       }
 
--- ---- the maker
+-- ---- what a call leaves
 
--- what the maker leaves where it gives an answer is the skip book of the file's rule
-pub maker-writes : (file book : List ℕ) {count : ℕ} → makeBook file book ≡ given count
-    → IsBook (ruleOf file) (bookAfter (makeBook file book) (ruleOf file) book)
-unfolding makeBook bookAfter
-maker-writes file book e =
-    let accepted = giving-given (checkRule file) _ e in
-    let R : Rule = accepted .0 in
-    subst (λ (S : Rule). IsBook S (bookAfter (makeBook file book) S book)) (sym (accepted-rule file (accepted .1)))
-    (rw (e, bookAfter) (made-is-book R (accepted-is-rule file (accepted .1)) (drop (R .states + 1) book)))
+-- a refusal leaves the book, and an answer that was given has it written
+module _ {A : Type 0} (answer : Answer A) (R : Rule) (book : List ℕ) where
+  pub after-refused : {number place : ℕ} → answer ≡ refused number place → bookAfter answer R book ≡ book
+  unfolding bookAfter
+  after-refused e = rw (e, bookAfter)
 
--- and every accepted file has its book made, where there is room for it
-pub always-made : (file book : List ℕ) {R : Rule} → checkRule file ≡ given R → R .states + 1 ≤ length book
-    → makeBook file book ≡ given (ones (wordOf (stillMarks R)))
+  pub after-given : {a : A} → answer ≡ given a → bookAfter answer R book ≡ bookOf R ++ drop (R .states + 1) book
+  unfolding bookAfter
+  after-given e = rw (e, bookAfter)
+
+-- every rule has its book made, where there is room for it
+pub always-made : (R : Rule) (book : List ℕ) → IsRule R → R .states + 1 ≤ length book
+    → makeBook R book ≡ given (ones (wordOf (stillMarks R)))
 unfolding makeBook
-always-made file book {R} e room =
-    giving-passes _ e ∙ long-passes R book _ room
-    ∙ refuse-passes 15 0 _ (never-used-up R (accepted-is-rule file e))
+always-made R book rule room = long-passes R book _ room ∙ refuse-passes 15 0 _ (never-used-up R rule)

@@ -5,12 +5,14 @@ use native.Mathlib.Omega.{arith}
 use Rattle.meaning.specs.declared.Refusal.{Refusal}
 use Rattle.meaning.specs.declared.Verdict.{Verdict}
 use Rattle.meaning.specs.declared.Verdict.the-variants.{OffSchema, Reject, Accept}
+use Rattle.meaning.specs.declared.Opened.{Opened}
+use Rattle.meaning.specs.declared.Opened.the-variants as opened
 use Rattle.meaning.specs.declared.End.{End}
 use Rattle.meaning.specs.declared.End.the-variants as end
 use Rattle.meaning.specs.declared.Feeding.{Feeding}
 use Rattle.meaning.specs.declared.Feeding.the-variants as feeding
 use Rattle.meaning.specs.Answers.{given}
-use Rattle.meaning.specs.Calls.{verdictSays, refusalSays, endSays, feedingSays, Judged}
+use Rattle.meaning.specs.Calls.{verdictSays, refusalSays, openedSays, endSays, feedingSays, Judged}
 
 -- what was given is one
 pub given-says : {A : Type 0} (a b : A) → given a ≡ given b → a ≡ b
@@ -34,6 +36,13 @@ refusal-says a b e =
     let numbers : a .number ≡ b .number = cc in
     let places : a .place ≡ b .place = cc in
     λ i. record { number = numbers i; place = places i }
+
+pub opened-says : (a b : Opened) → openedSays a ≡ openedSays b → a ≡ b
+unfolding openedSays refusalSays
+opened-says (opened.Ready a) (opened.Ready b) e = ap opened.Ready (given-says a b e)
+opened-says (opened.Ready a) (opened.Refused b) e = cc
+opened-says (opened.Refused a) (opened.Ready b) e = cc
+opened-says (opened.Refused a) (opened.Refused b) e = ap opened.Refused (refusal-says a b e)
 
 pub end-says : (a b : End) → endSays a ≡ endSays b → a ≡ b
 unfolding endSays refusalSays

@@ -1,20 +1,14 @@
--- `program::passes::begin` meets its contract: no event, from a fresh reading over levels that hold nothing.
+-- `program::passes::begin` meets its contract: no event, from the first reading over levels that hold nothing.
 -- Assumes nothing.
 use mathlib.Core.Path.{refl, _∙_, ap}
 use mathlib.Core.List.{[]}
 use denote.Ref.{now}
-use Rattle.meaning.specs.RuleFile.{ruleOf}
-use Rattle.meaning.specs.FullReading.{freshReading}
 use Rattle.meaning.specs.Calls.{feedCall, feedingSays, largestCeiling}
-use Rattle.meaning.specs.CheckProgram.{programFed}
 use Rattle.program.specs.Passes.{passSays}
 use Rattle.program.proofs.Feeds.{on-given}
 use borrow.Author.Needs.{needs}
 use Rattle.program.proofs.passes.begin.Statement.{statement}
 use Rattle.program.proofs.passes.begin.Tie as tie
-
-first-reading-requires : tie.Need-first-reading-requires
-first-reading-requires c κs = search needs
 
 no-levels-requires : tie.Need-no-levels-requires
 no-levels-requires c κs = search needs
@@ -29,20 +23,18 @@ go-on-requires : tie.Need-go-on-requires
 go-on-requires c κs = search needs
 
 returns : tie.Need-returns
-unfolding programFed passSays feedingSays
+unfolding passSays feedingSays
 returns c =
-    let a = c .before .before .before .before .before .before .args in
+    let a = c .before .before .before .before .before .args in
     let levels = c .before .before .no-levels in
     c .go-on .ensures
     ∙ (on-given (now (a .file)) (now (a .book)) _ [] refl
-    ∙ (ap (λ r. feedCall (now (a .file)) (now (a .book)) largestCeiling r (levels .result) []) (c .before .before .before .first-reading .ensures)
-    ∙ ap (λ l. feedCall (now (a .file)) (now (a .book)) largestCeiling (freshReading (ruleOf (now (a .file)))) l []) (levels .ensures)))
+    ∙ ap (λ l. feedCall (now (a .file)) (now (a .book)) largestCeiling (a .first) l []) (levels .ensures))
 
 pub begin-spec : {M : Type 1} → statement M
 begin-spec =
     tie.close
     (tie.spec
-    first-reading-requires
     no-levels-requires
     array-share-prefix-none
     slice-aggregate-go-on

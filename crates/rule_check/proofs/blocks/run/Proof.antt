@@ -10,7 +10,7 @@ use lib.Seq.{length-take-le, take-all}
 use denote.Ref.{now}
 use Rattle.program.specs.Bodies.{Took}
 use Rattle.program.proofs.Blocks.{carried-front}
-use Rattle.rule_check.proofs.Glue.{start-in, took-all, has-read}
+use Rattle.rule_check.proofs.Glue.{start-in, file-accepted, took-all, has-read}
 use borrow.Author.Needs.{needs}
 use Rattle.rule_check.proofs.blocks.run.Statement.{statement}
 use Rattle.rule_check.proofs.blocks.run.Tie as tie
@@ -27,19 +27,19 @@ slice-aggregate-file c =
     let pre = c .before .before .pre in
     sym (length-take-le (a .at .place) (now (a .front)) (omega (arith, start-in (now (a .front)) (a .at .place) (a .at .size) (pre .1))))
 
-own-book-requires : tie.Need-own-book-requires
-own-book-requires c κs = search needs
+open-requires : tie.Need-open-requires
+open-requires c κs = search needs
 
 sub-carry : tie.Need-sub-carry
 sub-carry c =
-    let a = c .before .before .before .args in
-    let pre = c .before .before .before .pre in
+    let a = c .before .before .before .before .args in
+    let pre = c .before .before .before .before .pre in
     start-in (now (a .front)) (a .at .place) (a .at .size) (pre .1)
 
 part-carry-start : tie.Need-part-carry-start
 part-carry-start c =
-    let a = c .before .before .before .args in
-    let pre = c .before .before .before .pre in
+    let a = c .before .before .before .before .args in
+    let pre = c .before .before .before .before .pre in
     omega (arith, start-in (now (a .front)) (a .at .place) (a .at .size) (pre .1))
 
 part-carry-end : tie.Need-part-carry-end
@@ -67,7 +67,7 @@ one-block-requires : tie.Need-one-block-requires
 one-block-requires c κs = search needs
 
 slice-aggregate-read-body : tie.Need-slice-aggregate-read-body
-slice-aggregate-read-body c = search needs
+slice-aggregate-read-body c = sym (c .before .before .before .before .before .before .before .before .before .before .before .before .«open» .ensures .1 .1)
 
 slice-aggregate-read-body-2 : tie.Need-slice-aggregate-read-body-2
 slice-aggregate-read-body-2 c = search needs
@@ -76,15 +76,15 @@ read-body-requires : tie.Need-read-body-requires
 read-body-requires c κs = search needs
 
 slice-aggregate-text : tie.Need-slice-aggregate-text
-slice-aggregate-text c = sym (c .before .before .before .before .before .before .before .before .before .before .before .before .before .before .before .before .own-book .ensures .1)
+slice-aggregate-text c = sym (c .before .before .before .before .before .before .before .before .before .before .before .before .before .before .before .before .before .«open» .ensures .1 .1)
 
 text-requires : tie.Need-text-requires
 text-requires c κs = search needs
 
 returns : tie.Need-returns
 returns c =
-    let a = c .before .before .before .before .before .before .before .before .before .before .before .before .before .before .before .before .before .before .before .before .args in
-    let pre = c .before .before .before .before .before .before .before .before .before .before .before .before .before .before .before .before .before .before .before .before .pre in
+    let a = c .before .before .before .before .before .before .before .before .before .before .before .before .before .before .before .before .before .before .before .before .before .args in
+    let pre = c .before .before .before .before .before .before .before .before .before .before .before .before .before .before .before .before .before .before .before .before .before .pre in
     let said = c .text .ensures in
     let front : List ℕ = now (a .front) in
     let start : ℕ = a .at .place + 6 in
@@ -94,16 +94,17 @@ returns c =
       λ read.
           let went = c .before .before .before .before .read-body .ensures _ _ (rest .ensures) read in
           let begun = c .before .before .before .before .before .before .before .before .before .before .before .begin in
-          let book = c .before .before .before .before .before .before .before .before .before .before .before .before .before .before .before .before .before .own-book in
+          let opened = c .before .before .before .before .before .before .before .before .before .before .before .before .before .before .before .before .before .before .«open» in
           let file : List ℕ = take (a .at .place) front in
           let part : take (length front - start) (drop start front) ≡ drop start front
           = take-all (length front - start) (drop start front) (omega (arith, length-drop start front)) in
           let fits : length (take (length front - start) (drop start front)) ≤ 65536 = rw part (omega (arith, length-drop start front, pre .0)) in
           let there = carried-front (carried .ensures) fits ∙ part in
-          let took = took-all file (book .result) (a .at .size) (begun .result) _ (drop start front) _ there (begun .ensures (a .at .size)) went in (
+          let fresh = opened .ensures .0 (file-accepted front (a .at .place) (a .at .size) (pre .1)) in
+          let took = took-all file (opened .result .book) (a .at .size) (begun .result) _ (drop start front) _ there (begun .ensures (a .at .size) fresh) went in (
             went .new,
             said .1 (front ++ went .new) (drop start front ++ went .new) []
-                (has-read front (a .at .place) (a .at .size) (pre .1) file (book .result) _ (went .new) refl (book .ensures .0) took),
+                (has-read front (a .at .place) (a .at .size) (pre .1) file (opened .result .book) _ (went .new) refl (opened .ensures .1 .0) took),
           ),
     )
 
@@ -113,7 +114,7 @@ run-spec =
     (tie.spec
     add-start
     slice-aggregate-file
-    own-book-requires
+    open-requires
     sub-carry
     part-carry-start
     part-carry-end

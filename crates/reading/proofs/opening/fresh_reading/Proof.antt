@@ -1,9 +1,9 @@
--- `reading::document::fresh_reading` meets its contract: the initial state is the accepted file's.
+-- `reading::opening::fresh_reading` meets its contract: the initial state is the accepted file's.
 -- Assumes nothing.
 use Rattle.meaning.specs.FullReading.{freshReading}
 use Rattle.turning.proofs.Turned.{initial-is}
-use Rattle.reading.proofs.document.fresh_reading.Statement.{statement}
-use Rattle.reading.proofs.document.fresh_reading.Tie as tie
+use Rattle.reading.proofs.opening.fresh_reading.Statement.{statement}
+use Rattle.reading.proofs.opening.fresh_reading.Tie as tie
 
 returns : tie.Need-returns
 unfolding freshReading
