@@ -1,5 +1,7 @@
 // The making of skip books, a part of opening: it finds the states in which a tree can end and then Reach in rounds in its own
 // room, and writes the book last.
+#![tactic(auto)]
+
 mod moves;
 mod rounds;
 mod sets;
@@ -15,7 +17,7 @@ use meaning::Refusal;
 use rule::Rule;
 
 // What the making answers: how many states are still, or a refusal.
-#[derive(Drop)]
+#[derive(Clone, Copy)]
 pub enum Made {
     Still(u32),
     Refused(Refusal),

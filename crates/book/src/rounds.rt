@@ -15,7 +15,7 @@ use rule::Rule;
 const BEFORE_LAST: u8 = 63;
 
 // The states in which a tree can end, and the moves with these lower states.
-#[derive(Drop)]
+#[derive(Clone, Copy)]
 pub struct TreeEnds {
     pub set: u64,
     pub moves: [u64; 64],

@@ -1,5 +1,7 @@
 // The cases of document 01 that are not proved, and those of the requests: each call is made, and what it answers is printed.
 // The expected lines stand in the file stdout.
+#![tactic(auto)]
+
 mod documents;
 mod ends;
 mod files;

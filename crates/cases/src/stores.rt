@@ -5,7 +5,7 @@ ghost use Rattle.cases.specs.Stores.{OutcomeIs};
 use meaning::{End, Fed, Level, Reading};
 
 // What feed answered, and finish after it over the same levels.
-#[derive(Drop)]
+#[derive(Clone, Copy)]
 pub struct Outcome {
     pub fed: Fed,
     pub end: End,

@@ -1,6 +1,8 @@
 // What a host in C or Rust links: the calls of rule and reading on numbers and slices. Each call lays its answer into a
 // lent slice of 64-bit numbers: the number of the refusal or 0, its place or 0, and then the values that were given. It returns
 // whether they fitted: into a slice that is too short nothing is laid. Eight numbers are room enough for every call.
+#![tactic(auto)]
+
 mod answers;
 mod lay;
 

@@ -1,4 +1,6 @@
 // The check program's input: where the record of events stands, and the events in its bytes.
+#![tactic(auto)]
+
 ghost use Rattle.std.specs.Prelude.{◌≡◌, ◌+◌, ◌*◌, ◌≤◌, length};
 ghost use Rattle.meaning.specs.Answers.{refused};
 ghost use Rattle.meaning.specs.CheckProgram.{events_header, front_check};
@@ -10,14 +12,14 @@ use rule::tables::HEADER;
 use rule::{Checked, Rule, check};
 
 // Where the record of events starts, which is where the rule's file ends, and how many bytes its body has.
-#[derive(Drop)]
+#[derive(Clone, Copy)]
 pub struct EventsAt {
     pub place: usize,
     pub size: u32,
 }
 
 // What the front of an input says: where its events are, or the refusal of a bad record.
-#[derive(Drop)]
+#[derive(Clone, Copy)]
 pub enum Front {
     Events(EventsAt),
     Refused(Refusal),

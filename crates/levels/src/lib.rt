@@ -1,5 +1,7 @@
 // The level store: a lent slice of records, one for each open level. It is indexed in two functions only, and every
 // other function reads and writes it through them.
+#![tactic(auto)]
+
 ghost use Rattle.std.specs.Prelude.{◌≡◌, length, get_or, set};
 ghost use Rattle.meaning.specs.FullReading.{blank};
 

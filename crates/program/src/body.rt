@@ -24,21 +24,21 @@ const EVENTS: usize = 32768;
 const WORDS: usize = 65;
 
 // What opening gave: the first reading, and the rule's own book.
-#[derive(Drop)]
+#[derive(Clone, Copy)]
 pub struct Start {
     pub first: Reading,
     pub book: [u64; 65],
 }
 
 // Both readings.
-#[derive(Drop)]
+#[derive(Clone, Copy)]
 pub struct Both {
     pub skip: Pass,
     pub full: Pass,
 }
 
 // The body so far: both readings, how many bytes were taken, and whether bytes came after the record.
-#[derive(Drop)]
+#[derive(Clone, Copy)]
 pub struct Body {
     pub both: Both,
     pub taken: usize,

@@ -11,7 +11,7 @@ use meaning::{End, Feeding, Level, Reading};
 const CEILING: u32 = 0xffff_ffff;
 
 // A reading so far: once an event is refused, no more is taken.
-#[derive(Drop)]
+#[derive(Clone, Copy)]
 pub struct Pass {
     pub reading: Reading,
     pub ended: Feeding,

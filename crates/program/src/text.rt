@@ -7,7 +7,7 @@ ghost use Rattle.program.specs.Texts.{text_says, InRoom, Lays};
 pub const ROOM: usize = 192;
 
 // The bytes so far are the first of the room.
-#[derive(Drop)]
+#[derive(Clone, Copy)]
 pub struct Text {
     pub bytes: [u8; 192],
     pub count: usize,

@@ -15,7 +15,7 @@ use turning::Going;
 pub const LARGEST_CEILING: u32 = 4294967295;
 
 // Where feeding begins, and the rule that it goes by.
-#[derive(Drop)]
+#[derive(Clone, Copy)]
 pub struct Begun {
     pub rule: Rule,
     pub going: Going,

@@ -1,5 +1,7 @@
 // The calls of a reading over the lent level store: open, feed, finish and the whole document. What one event leads to is found
 // by value, in `turning`; here it is stored, and the calls check what they are handed.
+#![tactic(auto)]
+
 mod checking;
 mod document;
 mod ending;
@@ -22,7 +24,7 @@ use rule::{Checked, Rule};
 use turning::advancing::top_place;
 
 // What feeding answers over levels of one's own: the answer, and the levels after it.
-#[derive(Drop)]
+#[derive(Clone, Copy)]
 pub struct FedArray {
     pub fed: Fed,
     pub levels: [Level; 1024],

@@ -10,7 +10,7 @@ use crate::tables::HEADER;
 use meaning::Refusal;
 
 // What one check answers: it passes, or a refusal.
-#[derive(Drop)]
+#[derive(Clone, Copy)]
 pub enum Outcome {
     Passes,
     Refused(Refusal),

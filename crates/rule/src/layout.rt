@@ -11,7 +11,7 @@ pub const LETTER_RECORD: usize = 11;
 
 // The bytes of the letter moves and of the tree moves, the places of the third and the fourth record, and the bytes of the
 // whole file.
-#[derive(Drop)]
+#[derive(Clone, Copy)]
 pub struct Layout {
     pub letter_moves: usize,
     pub tree_moves: usize,

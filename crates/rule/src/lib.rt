@@ -1,4 +1,6 @@
 // The rule file: the four numbers of a rule, the numbers of the format, and the answers of the check and of the writer.
+#![tactic(auto)]
+
 pub mod check;
 mod layout;
 pub mod tables;
@@ -12,7 +14,7 @@ use check::Outcome;
 use meaning::Refusal;
 
 // The four numbers of a rule. Its tables stay in the bytes of its file, where they are read at computed offsets.
-#[derive(Drop)]
+#[derive(Clone, Copy)]
 pub struct Rule {
     pub states: u8,
     pub initial: u8,
@@ -66,14 +68,14 @@ impl Rule {
 }
 
 // What the rule check answers: the rule's numbers, or a refusal.
-#[derive(Drop)]
+#[derive(Clone, Copy)]
 pub enum Checked {
     Fine(Rule),
     Refused(Refusal),
 }
 
 // What the writer answers: the count of bytes written, or a refusal.
-#[derive(Drop)]
+#[derive(Clone, Copy)]
 pub enum Written {
     Bytes(usize),
     Refused(Refusal),

@@ -6,7 +6,7 @@ ghost use Rattle.rule.specs.Tables.{letter_byte, tree_byte, class_byte, move_in}
 use crate::Rule;
 
 // The three tables that a look may be in.
-#[derive(Drop)]
+#[derive(Clone, Copy)]
 pub enum Table {
     LetterMoves,
     TreeStart,
@@ -14,7 +14,7 @@ pub enum Table {
 }
 
 // What a look finds: the state that the move leads to, or no move, and which table has none.
-#[derive(Drop)]
+#[derive(Clone, Copy)]
 pub enum Move {
     To(u8),
     NoneIn(Table),

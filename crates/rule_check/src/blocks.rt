@@ -14,7 +14,7 @@ use program::text::Text;
 use rule::tables::HEADER;
 
 // The body so far, whether there is more to read, and whether a read failed.
-#[derive(Drop)]
+#[derive(Clone, Copy)]
 struct Going {
     pub body: Body,
     pub more: bool,
@@ -22,7 +22,7 @@ struct Going {
 }
 
 // What is to be printed, unless a read failed.
-#[derive(Drop)]
+#[derive(Clone, Copy)]
 pub struct Answer {
     pub text: Text,
     pub failed: bool,

@@ -1,5 +1,7 @@
 // The check program: it reads a rule and events from standard input, and prints what skipping and full reading make of them.
 // What it makes of the bytes is the library `program`; here they are read, and the answer is written.
+#![tactic(auto)]
+
 mod blocks;
 mod output;
 mod source;

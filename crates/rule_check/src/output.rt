@@ -10,7 +10,7 @@ use program::text::Text;
 const TRIES: u32 = 0xffff_ffff;
 
 // How many bytes one write moved, and whether a signal interrupted it.
-#[derive(Drop)]
+#[derive(Clone, Copy)]
 struct Put {
     pub count: usize,
     pub again: bool,

@@ -7,7 +7,7 @@ use libc::STDIN_FILENO;
 const TRIES: u32 = 0xffff_ffff;
 
 // How many bytes one read moved, whether it failed, and whether a signal interrupted it.
-#[derive(Drop)]
+#[derive(Clone, Copy)]
 struct Moved {
     pub count: usize,
     pub failed: bool,
@@ -15,7 +15,7 @@ struct Moved {
 }
 
 // How many bytes a buffer holds now, and whether a read failed.
-#[derive(Drop)]
+#[derive(Clone, Copy)]
 pub struct Got {
     pub count: usize,
     pub failed: bool,

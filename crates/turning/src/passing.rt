@@ -15,7 +15,7 @@ const BLOCK: usize = 256;
 const FIRST: usize = 128;
 
 // How many events of a run open a tree, how many close one, and the largest event.
-#[derive(Drop)]
+#[derive(Clone, Copy)]
 struct Counts {
     pub opens: u16,
     pub closes: u16,
@@ -23,14 +23,14 @@ struct Counts {
 }
 
 // The lowest and the last skip depth of a run that was begun at some depth.
-#[derive(Drop)]
+#[derive(Clone, Copy)]
 struct Depths {
     pub lowest: u16,
     pub last: u16,
 }
 
 // How many events were passed over, and the skip depth after them.
-#[derive(Drop)]
+#[derive(Clone, Copy)]
 struct Passed {
     pub count: usize,
     pub skip: u32,

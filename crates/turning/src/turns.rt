@@ -19,7 +19,7 @@ use rule::{Rule, tables};
 pub const MOST_EVENTS: u32 = 4294967295;
 
 // What a look comes to: the state that it leads to, or the number of the refusal.
-#[derive(Drop)]
+#[derive(Clone, Copy)]
 enum LookedUp {
     To(u8),
     Refused(u8),

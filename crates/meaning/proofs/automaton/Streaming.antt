@@ -119,13 +119,14 @@ module _ {R : Rule} where
   unfolding events_of
   streams-are-partial-runs = (λ s. streams-partial (of_hedge ε refl by_nothing) s, partial-streams)
 
-  partial-hedge : {q q' : ℕ} {σ es : List ℕ} → PartialRun R q σ es q' σ → (h : Hedge) × (events_of h ≡ es) × Goes R q h q'
-  partial-hedge (of_hedge h e g) = (h, e, g)
-  partial-hedge (into_tree h e g s r) = absurd (omega (arith, partial-higher r))
+  partial-hedge : {q q' : ℕ} {σ σ' es : List ℕ} → PartialRun R q σ es q' σ' → length σ' ≡ length σ
+      → (h : Hedge) × (events_of h ≡ es) × Goes R q h q'
+  partial-hedge (of_hedge h e g) same = (h, e, g)
+  partial-hedge (into_tree h e g s r) same = absurd (omega (arith, partial-higher r))
 
   -- and its Proposition 57: with no tree open the events are those of a hedge, by which the automaton goes
   pub streams-hedge : {q q' : ℕ} {es : List ℕ} → Streams R q [] es q' [] → (h : Hedge) × (events_of h ≡ es) × Goes R q h q'
-  streams-hedge s = partial-hedge (streams-are-partial-runs.0 s)
+  streams-hedge s = partial-hedge (streams-are-partial-runs.0 s) refl
 
 -- ---- one event that full reading takes
 
