@@ -166,7 +166,7 @@ pub fn write(
     classes: &[u8],
     output: &mut [u8],
 ) -> Written
-    ensures result_value { written_says result ≡ write_check (rule_from states initial tree_start letters letter_moves.now tree_moves.now classes.now) (length output.old) }
+    ensures answer { written_says result ≡ write_check (rule_from states initial tree_start letters letter_moves.now tree_moves.now classes.now) (length output.old) }
     ensures output_after { output.new ≡ output_after (write_check (rule_from states initial tree_start letters letter_moves.now tree_moves.now classes.now) (length output.old)) (rule_from states initial tree_start letters letter_moves.now tree_moves.now classes.now) output.old }
 {
     let answer = write_check(

@@ -1,0 +1,15 @@
+-- The place is that of the class record's body and the state.
+use Rattle.std.proofs.Common.{◌≡◌, ◌∙◌, ap, ℕ, ◌+◌, arith, get_or}
+use Rattle.meaning.specs.RuleFile.{none, header_length, class_record, tree_record, letter_record}
+use Rattle.rule.specs.Tables.{class_byte}
+use Rattle.rule.proofs.tables.class_at.Goals as goal
+
+pub returns : goal.returns
+unfolding class_byte class_record tree_record letter_record
+returns c =
+    let a = c.args in
+    let same : 17 + c.product-letters.result + 6 + c.product-trees.result + 6 + a.state
+    ≡ class_record a.rule.states a.rule.letters + header_length + a.state =
+    omega arith
+    in
+    c.byte_or_none.ensures ∙ ap (λ (i : ℕ). get_or a.file.now i none) same
