@@ -3,12 +3,20 @@
 use Rattle.std.proofs.Common.{◌≡◌, refl, sym, ap, ◌∙◌, ◌++◌, ℕ, length, drop, arith}
 use Rattle.meaning.specs.Answers.{Answer, given}
 use Rattle.meaning.specs.Calls.{refusal_says}
-use Rattle.meaning.specs.RuleFile.{write_check, output_after, rule_bytes, record_bytes, numbers_body, bytes2, bytes4, letter_record, tree_record, class_record, file_length}
+use Rattle.meaning.specs.RuleFile.{Rule, write_check, output_after, rule_bytes, record_bytes, numbers_body, bytes2, bytes4, letter_record, tree_record, class_record, file_length}
 use Rattle.meaning.proofs.rulefile.RoundTrip.{writes, bytes-length}
+use Rattle.rule.specs.declared.Written.{Written}
+use Rattle.rule.specs.declared.Written.TheVariants.{Bytes}
 use Rattle.rule.specs.Says.{written_says}
 use Rattle.rule.specs.Checks.{rule_from}
 use Rattle.rule.proofs.Laying.{laid_next, laid-front}
 use Rattle.rule.proofs.writer.write.Goals as goal
+
+-- what the check answered, where it was a count
+was-given : (R : Rule) (room : ℕ) {count : ℕ} {answered : Written} → written_says answered ≡ write_check R room → answered ≡ Bytes count
+    → write_check R room ≡ given count
+unfolding written_says
+was-given R room says is = sym says ∙ ap written_says is
 
 pub returns-in-Refused-clause-output_after : goal.returns-in-Refused-clause-output_after
 unfolding written_says refusal_says output_after
@@ -22,9 +30,7 @@ unfolding written_says rule_from file_length class_record tree_record letter_rec
 numbers-requires c =
     let a = c.args in
     let R = rule_from a.states a.initial a.tree_start a.letters a.letter_moves.now a.tree_moves.now a.classes.now in
-    let answer : write_check R (length a.output.now) ≡ given c.in_default.field-0 =
-    sym c.write_check-answer.ensures ∙ ap written_says c.in_default.is
-    in
+    let answer = was-given R (length a.output.now) c.write_check-answer.ensures c.in_default.is in
     let w = writes R (length a.output.now) answer in
     omega arith
 
@@ -33,9 +39,7 @@ unfolding written_says rule_from file_length class_record tree_record letter_rec
 tables-requires c =
     let a = c.args in
     let R = rule_from a.states a.initial a.tree_start a.letters a.letter_moves.now a.tree_moves.now a.classes.now in
-    let answer : write_check R (length a.output.now) ≡ given c.in_default.field-0 =
-    sym c.write_check-answer.ensures ∙ ap written_says c.in_default.is
-    in
+    let answer = was-given R (length a.output.now) c.write_check-answer.ensures c.in_default.is in
     let w = writes R (length a.output.now) answer in
     omega (arith, w.rule.letter_length, w.rule.tree_length, w.rule.class_length, c.numbers.auto.output)
 
@@ -45,9 +49,7 @@ returns-clause-output_after c =
     let a = c.args in
     let R = rule_from a.states a.initial a.tree_start a.letters a.letter_moves.now a.tree_moves.now a.classes.now in
     let output = a.output.now in
-    let answer : write_check R (length output) ≡ given c.in_default.field-0 =
-    sym c.write_check-answer.ensures ∙ ap written_says c.in_default.is
-    in
+    let answer = was-given R (length a.output.now) c.write_check-answer.ensures c.in_default.is in
     let w = writes R (length output) answer in
     let first = record_bytes 1 (numbers_body R) in
     c.tables.ensures
