@@ -1,12 +1,10 @@
 -- Each turn leaves what the definition's step leaves, with its record laid where it says, and nothing where the place is past
 -- the store.
-use Rattle.std.proofs.Common.{◌≡◌, refl, sym, ◌∙◌, ℕ, List, length, get_or, arith}
+use Rattle.std.proofs.Common.{refl, sym, ◌∙◌, arith}
 use lib.Seq.{set_out}
-use Rattle.meaning.specs.Answers.{given, ◌giving◌}
-use Rattle.meaning.specs.RuleFile.{rule_of}
-use Rattle.meaning.specs.declared.Level.{Level}
-use Rattle.meaning.specs.Calls.{refusal_says, top_of, stored_after, store_step}
-use Rattle.turning.specs.Turns.{turn_says, Stands, over}
+use Rattle.meaning.specs.Answers.{◌giving◌}
+use Rattle.meaning.specs.Calls.{refusal_says, stored_after}
+use Rattle.turning.specs.Turns.{turn_says}
 use Rattle.turning.proofs.Steps.{step_of}
 use Rattle.turning.proofs.OneTurn.{takes, refuses}
 use Rattle.turning.proofs.advancing.take_event.Goals as goal
