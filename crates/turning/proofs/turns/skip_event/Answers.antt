@@ -2,7 +2,7 @@
 use Rattle.std.proofs.Common.{◌+◌, arith, sym, ◌∙◌, le-leb}
 use borrow.Author.Tests.{lt-leb}
 use Rattle.meaning.specs.RuleFile.{rule_of}
-use Rattle.meaning.specs.FullReading.{known_event}
+use Rattle.meaning.specs.FullReading.{most_events, known_event}
 use Rattle.meaning.specs.Skipping.{skip_turn, skip_event}
 use Rattle.meaning.proofs.laws.Answered.{refuse-stops, refuse-passes, if-true, if-false}
 use Rattle.turning.specs.Turns.{turn_says}
@@ -20,7 +20,7 @@ returns-then-reading-ge-MOST_EVENTS c =
 pub returns-then-known-event : goal.returns-then-known-event
 unfolding turn_says skip_event known_event
 returns-then-known-event c =
-    λ book stands. sym (refuse-passes 16 _ _ (lt-leb _ _ c.if-reading-ge-MOST_EVENTS.false)
+    λ book stands. sym (refuse-passes 16 _ _ (lt-leb most_events c.args.reading.taken (omega arith))
     ∙ refuse-stops 10 _ _ (le-leb ((rule_of c.args.file.now).letters + 2) c.args.event (omega (arith, letters-are c.requires.ruled, c.if-known-event.true))))
 
 pub returns-then-settled : goal.returns-then-settled
