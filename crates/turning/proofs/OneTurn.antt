@@ -1,6 +1,6 @@
 -- One turn of feeding keeps what is left to come: an event that is taken, one that is refused, and a run that is passed over.
 -- What was a reading still is one, and each event that is taken is one more.
-use mathlib.Core.Path.{◌≡◌, refl, sym, ap, ◌∙◌}
+use mathlib.Core.Path.{◌≡◌, refl, sym, ◌∙◌}
 use mathlib.Core.Bool.{Bool}
 use mathlib.Core.List.{List, [], ◌∷◌}
 use Prim.Native.Nat.{ℕ, ◌+◌, ◌-◌, ◌≤◌, ◌<◌}
@@ -9,11 +9,10 @@ use native.Mathlib.Omega.{arith}
 use lib.ListN.{length, get_or, drop, set, drop_of_length-le, length-set}
 use lib.Seq.{drop-cons}
 use Rattle.meaning.specs.Answers.{Answer, given}
-use Rattle.meaning.specs.RuleFile as format
 use Rattle.meaning.specs.RuleFile.{rule_of}
-use Rattle.meaning.specs.FullReading.{Event, Turn, Went, looked, feed_by}
-use Rattle.meaning.specs.Skipping.{passed, held, settled}
-use Rattle.meaning.specs.Calls.{Stored, top_of, stored_after, store_step, refusal_says, feeding_says}
+use Rattle.meaning.specs.FullReading.{Went, feed_by}
+use Rattle.meaning.specs.Skipping.{held, settled}
+use Rattle.meaning.specs.Calls.{Stored, top_of, store_step, refusal_says, feeding_says}
 use Rattle.meaning.specs.declared.Feeding.{Feeding}
 use Rattle.meaning.specs.declared.Feeding.TheVariants as feeding
 use Rattle.meaning.specs.declared.Level.{Level}
@@ -22,8 +21,6 @@ use Rattle.meaning.specs.declared.Refusal.{Refusal}
 use Rattle.meaning.proofs.rulefile.Accepted.{accepted-is-rule}
 use Rattle.meaning.proofs.laws.FeedLaws.{feed-taken, feed-refused, feed-none}
 use Rattle.meaning.proofs.stores.KeptReading.{IsReading, reading-is, event-keeps-reading}
-use Rattle.meaning.proofs.stores.StoreView.{step-turned}
-use Rattle.meaning.proofs.stores.Turns.{Turned, passes, ends_held, takes_letter, stores_open, ends_looked}
 use Rattle.rule.specs.declared.Rule.{Rule}
 use Rattle.turning.specs.Turns.{Ready, Stands, Feeds, over}
 use Rattle.turning.specs.PassingOver.{passed_on, PassesOver}

@@ -8,8 +8,8 @@ use Prim.Native.Nat.{ℕ, zero, suc, ◌+◌, ◌-◌, ◌≤◌, ◌<◌}
 use native.Mathlib.Numerals.{add-one}
 use native.Mathlib.Omega.{arith}
 use borrow.Author.Tests.{lt-ltb, lt-leb}
-use lib.ListN.{length, get_or, take, drop}
-use lib.Seq.{drop-cons}
+use lib.ListN.{length, get_or, take, drop, length-take}
+use lib.Seq.{drop-cons, take-take}
 use Rattle.meaning.specs.Answers.{given}
 use Rattle.meaning.specs.RuleFile.{Rule}
 use Rattle.meaning.specs.FullReading.{most_events, event_of, known_event, stays, feed_by}
@@ -20,8 +20,9 @@ use Rattle.meaning.specs.declared.Reading.{Reading}
 use Rattle.meaning.proofs.laws.FeedLaws.{feed-taken}
 use Rattle.meaning.proofs.laws.Answered.{if-true, refuse-passes, giving-passes}
 use Rattle.turning.specs.Turns.{over}
-use Rattle.turning.specs.PassingOver.{openings, closings, unknowns, total, Passing, passed_on, PassesOver}
+use Rattle.turning.specs.PassingOver.{openings, closings, unknowns, total, Passing, PassedIn, passed_on, PassesOver}
 use Rattle.turning.specs.declared.PassedTo.{PassedTo}
+use Rattle.turning.specs.declared.passing.Passed.{Passed}
 use Rattle.turning.proofs.Counting.{opens_one, opens-none, opens-few, closes-one, closes-none, known-cons, passing-nil, passing-cons}
 
 -- ---- one event
@@ -133,19 +134,31 @@ module _ (k : ℕ) (r : Reading) (events : List ℕ) (from : ℕ) where
       (passes-run n _ skip' (i + 1) (passes_on skip i p inside (omega (arith, p.further)) is.0 one.0) (omega arith) (omega arith)
       (rw (add-one i) is.1) (rw (add-one i) one.1))
 
+  -- a block of them, as far as it was passed over, within what the reading can still take
+  pub passes-block : (skip i stop end : ℕ) (q : Passed) → Passes skip i → i ≤ stop → stop ≤ end → end ≤ length events
+      → r.taken + (end - from) ≤ most_events → PassedIn (k + 2) skip (take (stop - i) (drop i events)) q
+      → (i + q.count ≤ stop) × Passes q.skip (i + q.count)
+  passes-block skip i stop end q p before near within limit is =
+      let rest = drop i events in
+      let long = length-take (stop - i) rest in
+      let same = take-take q.count (stop - i) rest (omega (arith, is.within)) in (
+        omega (arith, is.within),
+        passes-run q.count skip _ i p (omega (arith, is.within)) (omega (arith, is.within, p.further)) (rw same at is.all_known) (rw same at is.passing),
+      )
+
   -- where passing over was left
-  pub passes-left : (skip i : ℕ) (p : PassedTo) → Passes skip i → (p.reading ≡ passed_on r skip (i - from)) × (p.next ≡ i)
+  pub passes-left : (skip i : ℕ) (p : PassedTo) → Passes skip i → p.reading ≡ passed_on r skip (i - from) → p.next ≡ i
       → (book : List ℕ) (top : Level) → settled book r top ≡ true → PassesOver k book r top events from p
   unfolding passed_on
-  passes-left skip i p h left book top is =
-      let same : p.reading.skip ≡ skip = ap (λ (s : Reading). s.skip) left.0 in
+  passes-left skip i p h there next book top is =
+      let same : p.reading.skip ≡ skip = ap (λ (s : Reading). s.skip) there in
       record {
-        further = rw left.1 h.further;
-        within = rw left.1 h.within;
-        same = rw (left.0, left.1);
-        nested = rw (left.0, left.1) h.nested;
+        further = rw next h.further;
+        within = rw next h.within;
+        same = rw (there, next);
+        nested = rw (there, next) h.nested;
         stays_settled = λ skips deep. is;
-        feeds = λ R ceiling store letters is_top. rw (left.0, left.1) (h.feeds book R ceiling store letters (rw is_top is));
+        feeds = λ R ceiling store letters is_top. rw (there, next) (h.feeds book R ceiling store letters (rw is_top is));
       }
 
 -- nothing was passed over

@@ -35,11 +35,11 @@ fn take_event(
     events: &[u16],
     next: usize,
 ) -> Advance
-    requires fact_1 { RuleOf file.now rule }
-    requires fact_2 { Counted reading }
-    requires fact_3 { StatesIn rule reading top }
-    requires fact_4 { (held ≡ true → 0 < reading.depth) }
-    requires fact_5 { next < length events.now }
+    requires ruled { RuleOf file.now rule }
+    requires counted { Counted reading }
+    requires states_in { StatesIn rule reading top }
+    requires held_deep { held ≡ true → 0 < reading.depth }
+    requires event_left { next < length events.now }
     ensures { (book : List ℕ) (store : List Level) → Stands book reading top held settled → Feeds file.now rule book reading store → top_of reading store ≡ top → length store ≡ room → Advances file.now rule book ceiling store reading events.now next result }
 {
     let following = next + 1;
@@ -114,8 +114,8 @@ pub fn advance(
     events: &[u16],
     next: usize,
 ) -> Advance
-    requires fact_1 { Ready file.now rule book.now reading top }
-    requires fact_2 { next < length events.now }
+    requires ready { Ready file.now rule book.now reading top }
+    requires event_left { next < length events.now }
     ensures { (store : List Level) → Feeds file.now rule book.now reading store → top_of reading store ≡ top → length store ≡ room → Advances file.now rule book.now ceiling store reading events.now next result }
 {
     let held = is_held(book, reading, top);

@@ -38,14 +38,16 @@ struct Passed {
 
 // How many trees an event opens.
 fn openings(event: u16) -> u16
-    ensures { (result ≡ openings event) × (result ≤ 1) }
+    ensures opens { result ≡ openings event }
+    ensures few { result ≤ 1 }
 {
     if event == 0 { 1 } else { 0 }
 }
 
 // How many trees an event closes.
 fn closings(event: u16) -> u16
-    ensures { (result ≡ closings event) × (result ≤ 1) }
+    ensures closes { result ≡ closings event }
+    ensures few { result ≤ 1 }
 {
     if event == 1 { 1 } else { 0 }
 }
@@ -88,8 +90,10 @@ fn lesser(a: u16, b: u16) -> u16
 }
 
 // A run with one event more.
+#[tactic(auto, unfolding(crate::specs::PassingOver::one_more))]
 fn one_more(run: Depths, event: u16) -> Depths
-    requires { (0 < run.last) × (run.last ≤ 256) }
+    requires not_low { 0 < run.last }
+    requires not_high { run.last ≤ 256 }
     ensures { result ≡ one_more run event }
 {
     let last = run.last + openings(event) - closings(event);
@@ -100,8 +104,13 @@ fn one_more(run: Depths, event: u16) -> Depths
 }
 
 // Two runs, one after the other, the second of which was begun at the depth given.
+#[tactic(auto, unfolding(crate::specs::PassingOver::joined))]
 fn joined(begin: u16, first: Depths, second: Depths) -> Depths
-    requires { (begin ≤ 256) × (first.lowest ≤ 256) × (first.last ≤ 512) × (second.lowest ≤ 256) × (second.last ≤ 512) }
+    requires begin_fits { begin ≤ 256 }
+    requires first_lowest { first.lowest ≤ 256 }
+    requires first_last { first.last ≤ 512 }
+    requires second_lowest { second.lowest ≤ 256 }
+    requires second_last { second.last ≤ 512 }
     ensures { result ≡ joined begin first second }
 {
     Depths {
@@ -170,10 +179,10 @@ fn pass_events(known: u16, depth: u32, block: &[u16]) -> Passed
 // A block of known events is taken at once where no close of it ends the level: where its closes are no more than the skip
 // depth, or else where its lowest depth, from here, is not below zero.
 fn pass_known(known: u16, skip: u32, counts: Counts, block: &[u16]) -> Passed
-    requires fact_1 { skip + length block.now ≤ most_events }
-    requires fact_2 { length block.now ≡ 256 }
-    requires fact_3 { CountsOf block.now counts }
-    requires fact_4 { counts.largest < known }
+    requires within_limit { skip + length block.now ≤ most_events }
+    requires whole_block { length block.now ≡ 256 }
+    requires counted { CountsOf block.now counts }
+    requires all_known { counts.largest < known }
     ensures { PassedIn known skip block.now result }
 {
     let closes = counts.closes as u32;
@@ -224,15 +233,20 @@ fn ahead(from: usize, count: usize, end: usize) -> usize
 // How far the events go that a reading can still take: to their end, or to the event limit.
 fn last_event(taken: u32, from: usize, count: usize) -> usize
     requires { from ≤ count }
-    ensures { (result ≤ count) × (from ≤ result) × (taken + (result - from) ≤ most_events) }
+    ensures not_past { result ≤ count }
+    ensures not_before { from ≤ result }
+    ensures within_limit { taken + (result - from) ≤ most_events }
 {
     ahead(from, (MOST_EVENTS - taken) as usize, count)
 }
 
 // Where passing over was left: the reading there, and the next event.
+#[tactic(auto, unfolding(crate::specs::PassingOver::passed_on))]
 fn left_at(reading: Reading, skip: u32, from: usize, next: usize) -> PassedTo
-    requires { (from ≤ next) × (reading.taken + (next - from) ≤ most_events) }
-    ensures { (result.reading ≡ passed_on reading skip (next - from)) × (result.next ≡ next) }
+    requires not_before { from ≤ next }
+    requires within_limit { reading.taken + (next - from) ≤ most_events }
+    ensures reading_after { result.reading ≡ passed_on reading skip (next - from) }
+    ensures next_after { result.next ≡ next }
 {
     let taken = reading.taken + (next - from) as u32;
     PassedTo {
@@ -249,9 +263,9 @@ fn left_at(reading: Reading, skip: u32, from: usize, next: usize) -> PassedTo
 
 // On a settled level events are taken by counting alone, up to the close that ends the level or an event that is refused.
 fn pass_over(letters: u16, reading: Reading, events: &[u16], from: usize) -> PassedTo
-    requires fact_1 { Counted reading }
-    requires fact_2 { letters ≤ 256 }
-    requires fact_3 { from ≤ length events.now }
+    requires counted { Counted reading }
+    requires few_letters { letters ≤ 256 }
+    requires not_past { from ≤ length events.now }
     ensures { (book : List ℕ) (top : Level) → skipping.settled book reading top ≡ true → PassesOver letters book reading top events.now from result }
 {
     let known = letters + 2;
@@ -279,9 +293,9 @@ pub fn pass_settled(
     events: &[u16],
     from: usize,
 ) -> PassedTo
-    requires fact_1 { Counted reading }
-    requires fact_2 { letters ≤ 256 }
-    requires fact_3 { from ≤ length events.now }
+    requires counted { Counted reading }
+    requires few_letters { letters ≤ 256 }
+    requires not_past { from ≤ length events.now }
     ensures { (book : List ℕ) (top : Level) → settled ≡ skipping.settled book reading top → PassesOver letters book reading top events.now from result }
 {
     if settled {

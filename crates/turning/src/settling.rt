@@ -8,6 +8,7 @@ ghost use Rattle.turning.specs.Turns.{BookServes};
 use meaning::{Level, Reading};
 
 // Whether a state is in the set that a word stands for: its bit.
+#[tactic(auto, unfolding(meaning::specs::SkipBook::bit))]
 fn in_set(word: u64, state: u8) -> bool
     requires { state < 64 }
     ensures { result ≡ bit word state }
@@ -29,8 +30,8 @@ pub fn is_held(book: &[u64], reading: Reading, top: Level) -> bool
 
 // Whether the level is settled: it is held, or its state is in still.
 pub fn is_settled(book: &[u64], reading: Reading, held: bool) -> bool
-    requires fact_1 { reading.state < 64 }
-    requires fact_2 { 0 < length book.now }
+    requires state_bit { reading.state < 64 }
+    requires still_word { 0 < length book.now }
     ensures { (top : Level) → held ≡ skipping.held book.now reading top → result ≡ settled book.now reading top }
 {
     if held {

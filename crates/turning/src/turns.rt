@@ -26,6 +26,7 @@ enum LookedUp {
 }
 
 // The number of the refusal where a table has no move.
+#[tactic(auto, unfolding(meaning::specs::FullReading::no_move_number, rule::specs::Tables::table_says))]
 fn no_move_number(table: Table) -> u8
     ensures { result ≡ no_move_number (table_says table) }
 {
@@ -37,6 +38,7 @@ fn no_move_number(table: Table) -> u8
 }
 
 // The reading after an event that was a look.
+#[tactic(auto, unfolding(meaning::specs::FullReading::looked))]
 fn looked(reading: Reading, state: u8, depth: u32) -> Reading
     requires { OneMore reading }
     ensures { result ≡ full.looked reading state depth }
@@ -53,6 +55,7 @@ fn looked(reading: Reading, state: u8, depth: u32) -> Reading
 }
 
 // The reading after an event that was no look.
+#[tactic(auto, unfolding(meaning::specs::Skipping::passed))]
 fn passed(reading: Reading, state: u8, depth: u32, skip: u32) -> Reading
     requires { OneMore reading }
     ensures { result ≡ skipping.passed reading state depth skip }
@@ -82,10 +85,10 @@ fn look_up(ceiling: u32, reading: Reading, found: Move) -> LookedUp
 
 // A letter in full reading. The level store's length and the innermost record do not matter.
 fn full_letter(file: &[u8], rule: Rule, ceiling: u32, reading: Reading, a: u16) -> Turn
-    requires fact_1 { RuleOf file.now rule }
-    requires fact_2 { OneMore reading }
-    requires fact_3 { reading.state < rule.states }
-    requires fact_4 { a < rule.letters }
+    requires ruled { RuleOf file.now rule }
+    requires one_more { OneMore reading }
+    requires state_in { reading.state < rule.states }
+    requires letter_in { a < rule.letters }
     ensures { (room : ℕ) (top : Level) → turn_says reading result ≡ full_turn (rule_of file.now) room ceiling reading top (letter a) }
 {
     let found = tables::letter_move(file, rule, reading.state, a);
@@ -118,9 +121,9 @@ fn full_open(rule: Rule, room: usize, ceiling: u32, reading: Reading) -> Turn
 
 // A close in full reading.
 fn full_close(file: &[u8], rule: Rule, ceiling: u32, reading: Reading, top: Level) -> Turn
-    requires fact_1 { RuleOf file.now rule }
-    requires fact_2 { OneMore reading }
-    requires fact_3 { StatesIn rule reading top }
+    requires ruled { RuleOf file.now rule }
+    requires one_more { OneMore reading }
+    requires states_in { StatesIn rule reading top }
     ensures { (room : ℕ) → turn_says reading result ≡ full_turn (rule_of file.now) room ceiling reading top closes }
 {
     if reading.depth == 0 {
@@ -142,10 +145,10 @@ fn ends_level(
     reading: Reading,
     top: Level,
 ) -> Turn
-    requires fact_1 { RuleOf file.now rule }
-    requires fact_2 { OneMore reading }
-    requires fact_3 { StatesIn rule reading top }
-    requires fact_4 { (held ≡ true → 0 < reading.depth) }
+    requires ruled { RuleOf file.now rule }
+    requires one_more { OneMore reading }
+    requires states_in { StatesIn rule reading top }
+    requires held_deep { held ≡ true → 0 < reading.depth }
     ensures { (book : List ℕ) (room : ℕ) → held ≡ skipping.held book reading top → turn_says reading result ≡ ends_level (rule_of file.now) book room ceiling reading top }
 {
     if held {
@@ -165,10 +168,10 @@ fn settled_turn(
     top: Level,
     event: u16,
 ) -> Turn
-    requires fact_1 { RuleOf file.now rule }
-    requires fact_2 { OneMore reading }
-    requires fact_3 { StatesIn rule reading top }
-    requires fact_4 { (held ≡ true → 0 < reading.depth) }
+    requires ruled { RuleOf file.now rule }
+    requires one_more { OneMore reading }
+    requires states_in { StatesIn rule reading top }
+    requires held_deep { held ≡ true → 0 < reading.depth }
     ensures { (book : List ℕ) (room : ℕ) → held ≡ skipping.held book reading top → turn_says reading result ≡ settled_turn (rule_of file.now) book room ceiling reading top (event_of event) }
 {
     if event == 0 {
@@ -196,10 +199,10 @@ fn full_turn(
     top: Level,
     event: u16,
 ) -> Turn
-    requires fact_1 { RuleOf file.now rule }
-    requires fact_2 { OneMore reading }
-    requires fact_3 { StatesIn rule reading top }
-    requires fact_4 { event < rule.letters + 2 }
+    requires ruled { RuleOf file.now rule }
+    requires one_more { OneMore reading }
+    requires states_in { StatesIn rule reading top }
+    requires event_known { event < rule.letters + 2 }
     ensures { turn_says reading result ≡ full_turn (rule_of file.now) room ceiling reading top (event_of event) }
 {
     if event == 0 {
@@ -223,10 +226,10 @@ pub fn skip_event(
     top: Level,
     event: u16,
 ) -> Turn
-    requires fact_1 { RuleOf file.now rule }
-    requires fact_2 { Counted reading }
-    requires fact_3 { StatesIn rule reading top }
-    requires fact_4 { (held ≡ true → 0 < reading.depth) }
+    requires ruled { RuleOf file.now rule }
+    requires counted { Counted reading }
+    requires states_in { StatesIn rule reading top }
+    requires held_deep { held ≡ true → 0 < reading.depth }
     ensures { (book : List ℕ) → Stands book reading top held settled → turn_says reading result ≡ skip_event (rule_of file.now) book room ceiling reading top event }
 {
     let known = rule.letters + 2;
