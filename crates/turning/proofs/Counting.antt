@@ -77,9 +77,6 @@ module _ (f : ℕ → ℕ) where
   unfolding total
   total-more events i h = rw (add-one i, take-suc events i 0 h) (total-append (take i events) (get_or events i 0 ∷ []) ∙ omega arith)
 
-  pub total-all : (events : List ℕ) (i : ℕ) → i ≡ length events → total f (take i events) ≡ total f events
-  total-all events i e = rw (e, take-length)
-
   pub total-few : ((e : ℕ) → f e ≤ 1) → (events : List ℕ) → total f events ≤ length events
   unfolding total
   total-few few [] = omega arith
