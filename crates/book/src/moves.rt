@@ -11,6 +11,7 @@ use rule::Rule;
 use rule::tables::Move;
 
 // The state that a move leads to, or none. By way of it a look and what is made of it compile to one read and one test.
+#[tactic(auto, unfolding(crate::specs::Sets::state_or_none))]
 fn state_or_none(found: Move) -> u8
     ensures { result ≡ state_or_none found }
 {
@@ -35,7 +36,7 @@ pub fn target(found: Move) -> u64
 // The states that the letters lead to from a state.
 fn by_letters(file: &[u8], rule: Rule, state: u8) -> u64
     requires rule_of { RuleOf file.now rule }
-    requires state_lt_states { state < rule.states }
+    requires is_state { state < rule.states }
     ensures { StandsFor result (by_letters (rule_of file.now) state) }
 {
     let mut set: u64 = 0;
@@ -64,8 +65,8 @@ pub fn letter_moves(file: &[u8], rule: Rule) -> [u64; 64]
 // The states that the lower states of a set lead to from an upper state.
 fn by_trees(file: &[u8], rule: Rule, upper: u8, lowers: u64) -> u64
     requires rule_of { RuleOf file.now rule }
-    requires upper_lt_states { upper < rule.states }
-    requires states_of { StatesOf rule.states lowers }
+    requires is_state { upper < rule.states }
+    requires lowers_are_states { StatesOf rule.states lowers }
     ensures { StandsFor result (by_trees (rule_of file.now) lowers upper) }
 {
     let mut set: u64 = 0;
@@ -81,7 +82,7 @@ fn by_trees(file: &[u8], rule: Rule, upper: u8, lowers: u64) -> u64
 // The table, and in it the tree moves with the lower states of a set.
 pub fn with_trees(file: &[u8], rule: Rule, table: &[u64; 64], lowers: u64) -> [u64; 64]
     requires rule_of { RuleOf file.now rule }
-    requires states_of { StatesOf rule.states lowers }
+    requires lowers_are_states { StatesOf rule.states lowers }
     ensures { WithTrees (rule_of file.now) lowers table.now result }
 {
     let mut more = no_sets();
@@ -95,6 +96,7 @@ pub fn with_trees(file: &[u8], rule: Rule, table: &[u64; 64], lowers: u64) -> [u
 }
 
 // Whether a tree move leads from its upper state to another one.
+#[tactic(auto, unfolding(rule::specs::Tables::move_says, meaning::specs::SkipBook::none_or))]
 fn changed(found: Move, upper: u8) -> bool
     ensures { result ≡ not (none_or upper (move_says found)) }
 {
@@ -107,7 +109,7 @@ fn changed(found: Move, upper: u8) -> bool
 // The lower states whose tree move leads from an upper state to another one.
 pub fn changes(file: &[u8], rule: Rule, upper: u8) -> u64
     requires rule_of { RuleOf file.now rule }
-    requires upper_lt_states { upper < rule.states }
+    requires is_state { upper < rule.states }
     ensures { StandsFor result (changing (rule_of file.now) upper) }
 {
     let mut set: u64 = 0;

@@ -45,7 +45,8 @@ fn hold_word(reach: &[u64; 64], states: u8, change: u64) -> u64
 // hold(u) for each state u.
 fn hold_words(file: &[u8], rule: Rule, reach: &[u64; 64]) -> [u64; 64]
     requires { RuleOf file.now rule }
-    ensures { (length result ≡ 64) × (Reached (rule_of file.now) 64 reach.now → Holds (rule_of file.now) result) }
+    ensures long { length result ≡ 64 }
+    ensures holds { Reached (rule_of file.now) 64 reach.now → Holds (rule_of file.now) result }
 {
     let mut table = no_sets();
     let states = rule.states;
@@ -59,7 +60,9 @@ fn hold_words(file: &[u8], rule: Rule, reach: &[u64; 64]) -> [u64; 64]
 
 // Word 0 is still, and word 1+u is hold(u). The words past them stay.
 fn write_words(book: &mut [u64], still: u64, holds: &[u64; 64], states: u8)
-    requires { (states ≤ 64) × (states < length book.old) × (length holds.now ≡ 64) }
+    requires few_states { states ≤ 64 }
+    requires room { states < length book.old }
+    requires long { length holds.now ≡ 64 }
     ensures { book.new ≡ still ∷ (take states holds.now ++ drop (states + 1) book.old) }
 {
     book[0] = still;
@@ -74,9 +77,9 @@ fn write_words(book: &mut [u64], still: u64, holds: &[u64; 64], states: u8)
 // counted as the ones in that word.
 pub fn write_book(file: &[u8], rule: Rule, reach: &[u64; 64], book: &mut [u64]) -> u32
     requires rule_of { RuleOf file.now rule }
-    requires states_in_bounds { rule.states < length book.old }
+    requires room { rule.states < length book.old }
     requires reached { Reached (rule_of file.now) 64 reach.now }
-    ensures value { result ≡ ones (word_of (still_marks (rule_of file.now))) }
+    ensures still_count { result ≡ ones (word_of (still_marks (rule_of file.now))) }
     ensures book_after { book.new ≡ book_of (rule_of file.now) ++ drop (rule.states + 1) book.old }
 {
     let states = rule.states;
