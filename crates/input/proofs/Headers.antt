@@ -4,7 +4,7 @@ use mathlib.Core.List.{List}
 use Prim.Native.Nat.{ℕ, ◌+◌, ◌%◌, ◌≤◌, ◌<◌}
 use lib.ListN.{length}
 use borrow.Author.Tests.{lt-ltb, le-ltb, eq-eqb, ne_eqb}
-use Rattle.meaning.specs.Answers.{given, refused, refuse◌at◌when◌otherwise◌, ◌giving◌, ◌=?◌}
+use Rattle.meaning.specs.Answers.{given, refused, refuse◌at◌when◌otherwise◌, ◌=?◌}
 use Rattle.meaning.specs.RuleFile.{Rule, header_length, number2, number4, check_rule}
 use Rattle.meaning.specs.CheckProgram.{EventsAt, events_kind, events_header, events_place, front_check}
 use Rattle.meaning.proofs.laws.Answered.{refuse-passes, refuse-stops, giving-passes, giving-stops, if-true, if-false}
@@ -43,6 +43,8 @@ module _ (input : List ℕ) (place : ℕ) where
           → header_answer input place ≡ given (record { place = place; size = number4 input place })
       unfolding header_answer
       header-found even = giving-passes _ (to-length ∙ refuse-passes 3 place _ (ne_eqb (number4 input place % 2) 1 even))
+
+pub ruleset header_cases = (header-short, header-kind, header-odd, header-found)
 
 -- ---- where the record starts, by the rule check of the input
 

@@ -28,6 +28,7 @@ pub enum Front {
 // The kind of the record that holds the events.
 const EVENTS: u16 = 5;
 
+#[tactic(auto, unfolding(crate::specs::Says::front_says, meaning::specs::Calls::refusal_says))]
 fn refuse(number: u8, place: usize) -> Front
     ensures { front_says result ≡ refused number place }
 {
@@ -35,6 +36,7 @@ fn refuse(number: u8, place: usize) -> Front
 }
 
 // The header of the record of events.
+#[tactic(auto, using(crate::proofs::Headers::header_cases), unfolding(crate::specs::Says::front_says))]
 fn header_at(front: &[u8], place: usize) -> Front
     ensures { front_says result ≡ header_answer front.now place }
 {

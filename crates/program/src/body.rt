@@ -46,18 +46,19 @@ pub struct Body {
 }
 
 // A book of zeros.
+#[tactic(auto, unfolding(crate::specs::Bodies::zero_book))]
 fn zeros() -> [u64; 65]
-    ensures fact_1 { result ≡ zero_book }
-    ensures fact_2 { length result ≡ 65 }
+    ensures zeros { result ≡ zero_book }
+    ensures words { length result ≡ 65 }
 {
     [0; WORDS]
 }
 
 // The rule opened: a book of zeros is filled, and both readings begin from the one that was given.
 pub fn open(file: &[u8]) -> Start
-    ensures fact_1 { (check_rule file.now ≡ given (rule_of file.now) → result.first ≡ fresh_reading (rule_of file.now)) }
-    ensures fact_2 { result.book ≡ program_book file.now }
-    ensures fact_3 { length result.book ≡ 65 }
+    ensures first_reading { check_rule file.now ≡ given (rule_of file.now) → result.first ≡ fresh_reading (rule_of file.now) }
+    ensures own_book { result.book ≡ program_book file.now }
+    ensures words { length result.book ≡ 65 }
 {
     let mut book = zeros();
     let opened = reading::open(file, &mut book);
@@ -96,8 +97,8 @@ pub fn begin(file: &[u8], book: &[u64], first: Reading) -> Body
 
 // The events of a block are fed to both readings.
 fn feed_both(file: &[u8], book: &[u64], both: Both, block: &[u8]) -> Both
-    ensures skip_value { length block.now ≤ block_length → pass_says result.skip ≡ fed_on file.now book.now (pass_says both.skip) (events_in block.now) }
-    ensures full_value { length block.now ≤ block_length → pass_says result.full ≡ fed_on file.now zero_book (pass_says both.full) (events_in block.now) }
+    ensures skip_fed { length block.now ≤ block_length → pass_says result.skip ≡ fed_on file.now book.now (pass_says both.skip) (events_in block.now) }
+    ensures full_fed { length block.now ≤ block_length → pass_says result.full ≡ fed_on file.now zero_book (pass_says both.full) (events_in block.now) }
 {
     let mut events = [0u16; EVENTS];
     let n = input::decode(block, &mut events);
@@ -115,8 +116,8 @@ fn feed_both(file: &[u8], book: &[u64], both: Both, block: &[u8]) -> Both
 // A block of the body, whose events are fed, or which goes on after the record. No event straddles two blocks as long as every
 // block before has an even count of bytes.
 pub fn take(file: &[u8], book: &[u64], size: u32, body: Body, block: &[u8]) -> Body
-    ensures by_index { (bytes : List ℕ) → Took file.now book.now size body bytes → length bytes % 2 ≡ 0 → length block.now ≤ block_length → Took file.now book.now size result (bytes ++ block.now) }
-    ensures taken_value { result.after ≡ false → (result.taken ≡ body.taken + length block.now) × (result.taken ≤ size) }
+    ensures took_more { (bytes : List ℕ) → Took file.now book.now size body bytes → length bytes % 2 ≡ 0 → length block.now ≤ block_length → Took file.now book.now size result (bytes ++ block.now) }
+    ensures within_record { result.after ≡ false → (result.taken ≡ body.taken + length block.now) × (result.taken ≤ size) }
 {
     let both = body.both;
     let taken = body.taken;
@@ -148,9 +149,9 @@ pub fn take(file: &[u8], book: &[u64], size: u32, body: Body, block: &[u8]) -> B
 
 // The line of a bad rule or record.
 pub fn refused_text(r: Refusal) -> Text
-    ensures fact_1 { InRoom result }
-    ensures fact_2 { text_says result ≡ line_bytes rule_word (refused r.number r.place) }
-    ensures fact_3 { ((input : List ℕ) → front_check (take front_length input) ≡ refusal_says r → text_says result ≡ printed input) }
+    ensures in_room { InRoom result }
+    ensures says_line { text_says result ≡ line_bytes rule_word (refused r.number r.place) }
+    ensures says_printed { (input : List ℕ) → front_check (take front_length input) ≡ refusal_says r → text_says result ≡ printed input }
 {
     let start = empty();
     let named = word(start, b"rule");
@@ -159,8 +160,8 @@ pub fn refused_text(r: Refusal) -> Text
 
 // The two lines.
 fn both_lines(file: &[u8], book: &[u64], both: Both) -> Text
-    ensures fact_1 { InRoom result }
-    ensures fact_2 { text_says result ≡ both_lines file.now book.now (pass_says both.skip) (pass_says both.full) }
+    ensures in_room { InRoom result }
+    ensures says_lines { text_says result ≡ both_lines file.now book.now (pass_says both.skip) (pass_says both.full) }
 {
     let zero = zeros();
     let skip = both.skip;
@@ -172,8 +173,8 @@ fn both_lines(file: &[u8], book: &[u64], both: Both) -> Text
 
 // What is printed where the input ends, or where bytes came after the record.
 pub fn text(file: &[u8], book: &[u64], size: u32, body: Body) -> Text
-    ensures fact_1 { InRoom result }
-    ensures fact_2 { ((input bytes rest : List ℕ) → HasRead file.now book.now size body input bytes rest → text_says result ≡ printed input) }
+    ensures in_room { InRoom result }
+    ensures says_printed { (input bytes rest : List ℕ) → HasRead file.now book.now size body input bytes rest → text_says result ≡ printed input }
 {
     let start = file.len() + HEADER;
     let taken = body.taken;

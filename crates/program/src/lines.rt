@@ -29,6 +29,7 @@ pub(crate) fn refusal(text: Text, r: Refusal) -> Text
 }
 
 // A verdict.
+#[tactic(auto, unfolding(meaning::specs::Calls::verdict_says, meaning::specs::CheckProgram::class_word))]
 fn verdict(text: Text, v: Verdict) -> Text
     ensures { Lays text (class_word (verdict_says v)) result }
 {

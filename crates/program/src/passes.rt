@@ -19,6 +19,7 @@ pub struct Pass {
 }
 
 // Levels that hold nothing.
+#[tactic(auto, unfolding(meaning::specs::FullReading::blank))]
 fn no_levels() -> [Level; 1024]
     ensures { result ≡ replicate program_levels blank }
 {
@@ -30,6 +31,7 @@ fn no_levels() -> [Level; 1024]
 }
 
 // Events fed from a reading on.
+#[tactic(auto, unfolding(crate::specs::Passes::pass_says))]
 fn take_events(
     file: &[u8],
     book: &[u64],

@@ -14,9 +14,10 @@ pub struct Text {
 }
 
 // No byte yet.
+#[tactic(auto, unfolding(crate::specs::Texts::text_says))]
 pub(crate) fn empty() -> Text
-    ensures fact_1 { text_says result ≡ [] }
-    ensures fact_2 { InRoom result }
+    ensures says_nothing { text_says result ≡ [] }
+    ensures in_room { InRoom result }
 {
     Text {
         bytes: [0; 192],
