@@ -16,6 +16,7 @@ use turning::advancing::top_place;
 use turning::settling::{is_held, is_settled};
 
 // The rule that a check gave, or four zeros.
+#[tactic(auto, unfolding(crate::specs::Checks::rule_in))]
 pub fn rule_in(checked: Checked) -> Rule
     ensures { result ≡ rule_in checked }
 {
@@ -31,6 +32,7 @@ pub fn rule_in(checked: Checked) -> Rule
 }
 
 // Whether a stored state is below n, and those before it are.
+#[tactic(auto, unfolding(meaning::specs::RuleFile::is_state))]
 pub fn inside_with(inside: bool, level: Level, states: u8) -> bool
     ensures { result ≡ (inside && is_state states level.above) }
 {
@@ -80,9 +82,9 @@ fn skips_unsettled(book: &[u64], reading: Reading, top: Level) -> bool
 // Number 13: whether what was handed in is not a reading of a rule with so many states, from what was seen of the level
 // store: its length, whether the stored states are states, and the innermost record.
 fn not_reading(n: u8, book: &[u64], reading: Reading, room: usize, inside: bool, top: Level) -> bool
-    requires fact_1 { n ≤ 64 }
-    requires fact_2 { n < length book.now }
-    requires fact_3 { ((store : List Level) × Seen n reading store room inside top) }
+    requires few_states { n ≤ 64 }
+    requires long_book { n < length book.now }
+    requires seen { (store : List Level) × Seen n reading store room inside top }
     ensures { (R : format.Rule) (store : List Level) → R.states ≡ n → Seen n reading store room inside top → result ≡ not_reading R book.now reading store }
 {
     if n <= reading.state {
@@ -112,8 +114,8 @@ pub fn reading_answer(
     inside: bool,
     top: Level,
 ) -> Checked
-    requires fact_1 { ((file : List ℕ) × (checked_says checked ≡ check_answer file)) }
-    requires fact_2 { ((store : List Level) × Seen (rule_in checked).states reading store room inside top) }
+    requires a_check { (file : List ℕ) × (checked_says checked ≡ check_answer file) }
+    requires seen { (store : List Level) × Seen (rule_in checked).states reading store room inside top }
     ensures { (file : List ℕ) (store : List Level) → checked_says checked ≡ check_answer file → Seen (rule_in checked).states reading store room inside top → checked_says result ≡ reading_answer file book.now reading store }
 {
     match checked {

@@ -12,6 +12,7 @@ use rule::{Checked, Rule, tables};
 use turning::Going;
 
 // The verdict that a class stands for.
+#[tactic(auto, unfolding(meaning::specs::Calls::verdict_says))]
 fn verdict_of(class: u8) -> Verdict
     requires { class < 3 }
     ensures { verdict_says result ≡ class }
@@ -37,8 +38,8 @@ fn open_place(reading: Reading, top: Level) -> usize
 
 // A level or skip depth still open, or else the verdict.
 pub fn end_of(file: &[u8], rule: Rule, reading: Reading, top: Level) -> End
-    requires fact_1 { RuleOf file.now rule }
-    requires fact_2 { reading.state < rule.states }
+    requires rule_of_file { RuleOf file.now rule }
+    requires state_inside { reading.state < rule.states }
     ensures { end_says result ≡ end_of (rule_of file.now) reading top }
 {
     if 0 < reading.depth as u64 + reading.skip as u64 {

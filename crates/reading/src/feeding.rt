@@ -11,6 +11,7 @@ use turning::Going;
 use turning::advancing::{advance, top_place};
 
 // Where feeding begins: before the first event, or at the check's refusal with none left.
+#[tactic(auto, unfolding(turning::specs::Advancing::start_of))]
 pub fn started(checked: Checked, reading: Reading, count: usize) -> Going
     ensures { result ≡ start_of checked reading count }
 {
@@ -57,6 +58,7 @@ pub fn feed_loop(
 }
 
 // What feeding answers, from where it began and where it ended.
+#[tactic(auto, unfolding(crate::specs::Feeding::fed_of))]
 pub fn fed_of(before: Reading, going: Going) -> Fed
     requires { before.taken ≤ going.reading.taken }
     ensures { result ≡ fed_of before going }

@@ -33,7 +33,7 @@ pub struct FedArray {
 // Open a rule, given as the bytes of its file: the lent book is filled, and the answer is the fresh reading and how many states
 // are still. Whoever feeds that reading with that book skips; with a book of zeros it is read in full.
 pub fn open(file: &[u8], book: &mut [u64]) -> Opened
-    ensures result_value { opened_says result ≡ open_call file.now book.old }
+    ensures answer { opened_says result ≡ open_call file.now book.old }
     ensures book_after { book.new ≡ opened_book file.now book.old }
 {
     match Rule::of_file(file) {
@@ -43,6 +43,7 @@ pub fn open(file: &[u8], book: &mut [u64]) -> Opened
 }
 
 // The reading that opening gave, or five zeros where it refused.
+#[tactic(auto, unfolding(crate::specs::Whole::opened_reading))]
 pub fn first_of(opened: Opened) -> Reading
     ensures { result ≡ opened_reading opened }
 {

@@ -25,7 +25,7 @@ fn fresh_reading(rule: Rule) -> Reading
 // The book is written last, so a refusal leaves it untouched.
 pub fn open_rule(file: &[u8], rule: Rule, book: &mut [u64]) -> Opened
     requires { RuleOf file.now rule }
-    ensures result_value { opened_says result ≡ open_call file.now book.old }
+    ensures answer { opened_says result ≡ open_call file.now book.old }
     ensures book_after { book.new ≡ opened_book file.now book.old }
 {
     match make_book(file, rule, book) {
