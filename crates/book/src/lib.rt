@@ -44,7 +44,8 @@ pub fn make_book(file: &[u8], rule: Rule, book: &mut [u64]) -> Made
     let ends = rounds::tree_ends(file, rule);
     let moves = ends.moves;
     let reach = rounds::reach_from_all(&moves, states);
-    if rounds::last_adds(&moves, ends.set, &reach, states) {
+    let used_up = rounds::last_adds(&moves, ends.set, &reach, states);
+    if used_up {
         return Made::Refused(Refusal {
             number: ROUNDS_USED_UP,
             place: 0,

@@ -1,7 +1,6 @@
 -- Each answer is the definition's, a refusal leaves the book, and the words of all rounds before the last are Reach.
 use Rattle.std.proofs.Common.{◌+◌, ◌++◌, ℕ, drop, sym, ap, ◌∙◌, arith}
 use Rattle.meaning.specs.Answers.{given}
-use Rattle.meaning.specs.RuleFile as format
 use Rattle.meaning.specs.RuleFile.{rule_of}
 use Rattle.meaning.specs.Calls.{refusal_says}
 use Rattle.meaning.specs.SkipBook.{book_of}
@@ -10,8 +9,7 @@ use Rattle.meaning.proofs.skipbook.BookMade.{after-refused, after-given}
 use Rattle.book.specs.Says.{made_says}
 use Rattle.book.proofs.Walked.{few-states, states-are}
 use Rattle.book.proofs.InRounds.{reached-last}
-use Rattle.book.proofs.EndSet.{all_found}
-use Rattle.book.proofs.Makes.{book-short, rounds-used-up, book-made}
+use Rattle.book.proofs.Makes.{book-short, rounds-used-up, book-made, words-found, used-up-is}
 use Rattle.book.proofs.make_book.Goals as goal
 
 pub returns-then-book-states-clause-result_value : goal.returns-then-book-states-clause-result_value
@@ -26,53 +24,34 @@ returns-then-book-states-clause-book_after c =
 pub reach_from_all-reach-requires : goal.reach_from_all-reach-requires
 reach_from_all-reach-requires c = omega (arith, few-states c.requires)
 
-pub last_adds-requires : goal.last_adds-requires
-last_adds-requires c = omega (arith, few-states c.requires)
+pub last_adds-used_up-requires : goal.last_adds-used_up-requires
+last_adds-used_up-requires c = omega (arith, few-states c.requires)
 
-pub returns-then-last_adds-clause-result_value : goal.returns-then-last_adds-clause-result_value
+pub returns-then-used_up-clause-result_value : goal.returns-then-used_up-clause-result_value
 unfolding made_says refusal_says
-returns-then-last_adds-clause-result_value c =
-    let R : format.Rule = rule_of c.args.file.now in
-    let rule = accepted-is-rule _ c.requires.accepted in
-    let ends = c.tree_ends-ends.ensures in
-    let words = c.reach_from_all-reach.ensures R rule (all_found R rule _ _ ends) (states-are c.requires) in
-    let used = sym (c.if-last_adds.ensures R rule ends (states-are c.requires) words) in
-    sym (rounds-used-up R c.args.book.now (omega (arith, states-are c.requires)) used)
+returns-then-used_up-clause-result_value c =
+    let used = used-up-is c.requires c.tree_ends-ends.ensures _ c.reach_from_all-reach.ensures _ c.last_adds-used_up.ensures ∙ c.if-used_up.true in
+    sym (rounds-used-up (rule_of c.args.file.now) c.args.book.now (omega (arith, states-are c.requires)) used)
 
-pub returns-then-last_adds-clause-book_after : goal.returns-then-last_adds-clause-book_after
-returns-then-last_adds-clause-book_after c =
-    let R : format.Rule = rule_of c.args.file.now in
-    let rule = accepted-is-rule _ c.requires.accepted in
-    let ends = c.tree_ends-ends.ensures in
-    let words = c.reach_from_all-reach.ensures R rule (all_found R rule _ _ ends) (states-are c.requires) in
-    let used = sym (c.if-last_adds.ensures R rule ends (states-are c.requires) words) in
-    sym (after-refused _ _ _ (rounds-used-up R c.args.book.now (omega (arith, states-are c.requires)) used))
+pub returns-then-used_up-clause-book_after : goal.returns-then-used_up-clause-book_after
+returns-then-used_up-clause-book_after c =
+    let used = used-up-is c.requires c.tree_ends-ends.ensures _ c.reach_from_all-reach.ensures _ c.last_adds-used_up.ensures ∙ c.if-used_up.true in
+    sym (after-refused _ _ _ (rounds-used-up (rule_of c.args.file.now) c.args.book.now (omega (arith, states-are c.requires)) used))
 
 pub write_book-requires-clause-reached : goal.write_book-requires-clause-reached
 write_book-requires-clause-reached c =
-    let R : format.Rule = rule_of c.args.file.now in
-    let rule = accepted-is-rule _ c.requires.accepted in
-    let words = c.reach_from_all-reach.ensures R rule (all_found R rule _ _ c.tree_ends-ends.ensures) (states-are c.requires) in
-    reached-last R rule _ words
+    reached-last _ (accepted-is-rule _ c.requires.accepted) _ (words-found c.requires c.tree_ends-ends.ensures _ c.reach_from_all-reach.ensures)
 
 pub returns-clause-result_value : goal.returns-clause-result_value
 unfolding made_says
 returns-clause-result_value c =
-    let R : format.Rule = rule_of c.args.file.now in
-    let rule = accepted-is-rule _ c.requires.accepted in
-    let ends = c.tree_ends-ends.ensures in
-    let words = c.reach_from_all-reach.ensures R rule (all_found R rule _ _ ends) (states-are c.requires) in
-    let unused = sym (c.if-last_adds.ensures R rule ends (states-are c.requires) words) in
-    ap given c.write_book.ensures.still_count ∙ sym (book-made R c.args.book.now (omega (arith, states-are c.requires)) unused)
+    let unused = used-up-is c.requires c.tree_ends-ends.ensures _ c.reach_from_all-reach.ensures _ c.last_adds-used_up.ensures ∙ c.if-used_up.false in
+    ap given c.write_book.ensures.still_count ∙ sym (book-made (rule_of c.args.file.now) c.args.book.now (omega (arith, states-are c.requires)) unused)
 
 pub returns-clause-book_after : goal.returns-clause-book_after
 returns-clause-book_after c =
-    let R : format.Rule = rule_of c.args.file.now in
-    let rule = accepted-is-rule _ c.requires.accepted in
-    let ends = c.tree_ends-ends.ensures in
-    let words = c.reach_from_all-reach.ensures R rule (all_found R rule _ _ ends) (states-are c.requires) in
-    let unused = sym (c.if-last_adds.ensures R rule ends (states-are c.requires) words) in
-    let made = book-made R c.args.book.now (omega (arith, states-are c.requires)) unused in
+    let R = rule_of c.args.file.now in
+    let unused = used-up-is c.requires c.tree_ends-ends.ensures _ c.reach_from_all-reach.ensures _ c.last_adds-used_up.ensures ∙ c.if-used_up.false in
     c.write_book.ensures.book_after
     ∙ ap (λ (n : ℕ). book_of R ++ drop (n + 1) c.args.book.now) (sym (states-are c.requires))
-    ∙ sym (after-given _ R c.args.book.now made)
+    ∙ sym (after-given _ R c.args.book.now (book-made R c.args.book.now (omega (arith, states-are c.requires)) unused))
