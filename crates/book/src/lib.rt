@@ -31,7 +31,7 @@ const ROUNDS_USED_UP: u8 = 15;
 // The book of an accepted rule. A refusal leaves what was lent untouched.
 pub fn make_book(file: &[u8], rule: Rule, book: &mut [u64]) -> Made
     requires { RuleOf file.now rule }
-    ensures result_value { made_says result ≡ make_book (rule_of file.now) book.old }
+    ensures answer { made_says result ≡ make_book (rule_of file.now) book.old }
     ensures book_after { book.new ≡ book_after (make_book (rule_of file.now) book.old) (rule_of file.now) book.old }
 {
     let states = rule.states;

@@ -12,9 +12,9 @@ use Rattle.book.proofs.InRounds.{reached-last}
 use Rattle.book.proofs.Makes.{book-short, rounds-used-up, book-made, words-found, used-up-is}
 use Rattle.book.proofs.make_book.Goals as goal
 
-pub returns-then-book-states-clause-result_value : goal.returns-then-book-states-clause-result_value
+pub returns-then-book-states-clause-answer : goal.returns-then-book-states-clause-answer
 unfolding made_says refusal_says
-returns-then-book-states-clause-result_value c =
+returns-then-book-states-clause-answer c =
     sym (book-short (rule_of c.args.file.now) c.args.book.now (omega (arith, states-are c.requires)))
 
 pub returns-then-book-states-clause-book_after : goal.returns-then-book-states-clause-book_after
@@ -27,9 +27,9 @@ reach_from_all-reach-requires c = omega (arith, few-states c.requires)
 pub last_adds-used_up-requires : goal.last_adds-used_up-requires
 last_adds-used_up-requires c = omega (arith, few-states c.requires)
 
-pub returns-then-used_up-clause-result_value : goal.returns-then-used_up-clause-result_value
+pub returns-then-used_up-clause-answer : goal.returns-then-used_up-clause-answer
 unfolding made_says refusal_says
-returns-then-used_up-clause-result_value c =
+returns-then-used_up-clause-answer c =
     let used = used-up-is c.requires c.tree_ends-ends.ensures _ c.reach_from_all-reach.ensures _ c.last_adds-used_up.ensures ∙ c.if-used_up.true in
     sym (rounds-used-up (rule_of c.args.file.now) c.args.book.now (omega (arith, states-are c.requires)) used)
 
@@ -42,9 +42,9 @@ pub write_book-requires-clause-reached : goal.write_book-requires-clause-reached
 write_book-requires-clause-reached c =
     reached-last _ (accepted-is-rule _ c.requires.accepted) _ (words-found c.requires c.tree_ends-ends.ensures _ c.reach_from_all-reach.ensures)
 
-pub returns-clause-result_value : goal.returns-clause-result_value
+pub returns-clause-answer : goal.returns-clause-answer
 unfolding made_says
-returns-clause-result_value c =
+returns-clause-answer c =
     let unused = used-up-is c.requires c.tree_ends-ends.ensures _ c.reach_from_all-reach.ensures _ c.last_adds-used_up.ensures ∙ c.if-used_up.false in
     ap given c.write_book.ensures.still_count ∙ sym (book-made (rule_of c.args.file.now) c.args.book.now (omega (arith, states-are c.requires)) unused)
 

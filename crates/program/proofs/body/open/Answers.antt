@@ -12,7 +12,7 @@ returns-clause-first_reading c =
     let opened = c.open-opened in
     λ accepted.
     c.first_of-first.ensures
-    ∙ first-is opened.result (opened.ensures.result_value ∙ (ap (open_call file) c.zeros-book.ensures.zeros ∙ opens file accepted))
+    ∙ first-is opened.result (opened.ensures.answer ∙ (ap (open_call file) c.zeros-book.ensures.zeros ∙ opens file accepted))
 
 pub returns-clause-own_book : goal.returns-clause-own_book
 unfolding program_book
