@@ -30,6 +30,7 @@ fn lay_rule(rule: Rule, answer: &mut [u64]) -> bool
 }
 
 // The answer of the rule check.
+#[tactic(auto, unfolding(crate::specs::Numbers::answer_numbers, rule::specs::Says::checked_says, meaning::specs::Calls::refusal_says))]
 pub fn lay_checked(checked: Checked, answer: &mut [u64]) -> bool
     ensures { Laid (answer_numbers rule_values (checked_says checked)) answer.old result answer.new }
 {
@@ -47,6 +48,7 @@ fn lay_count(count: u64, answer: &mut [u64]) -> bool
 }
 
 // The answer of the writer.
+#[tactic(auto, unfolding(crate::specs::Numbers::answer_numbers, rule::specs::Says::written_says, meaning::specs::Calls::refusal_says))]
 pub fn lay_written(written: Written, answer: &mut [u64]) -> bool
     ensures { Laid (answer_numbers count_value (written_says written)) answer.old result answer.new }
 {
@@ -74,6 +76,7 @@ fn lay_counted(number: u8, place: usize, count: u32, reading: Reading, answer: &
 }
 
 // The answer of opening: how many states are still, and the fresh reading.
+#[tactic(auto, unfolding(crate::specs::Numbers::answer_numbers, meaning::specs::Calls::opened_says, meaning::specs::Calls::refusal_says))]
 pub fn lay_opened(opened: Opened, answer: &mut [u64]) -> bool
     ensures { Laid (answer_numbers opening_values (opened_says opened)) answer.old result answer.new }
 {
@@ -84,6 +87,7 @@ pub fn lay_opened(opened: Opened, answer: &mut [u64]) -> bool
 }
 
 // The answer of feeding: its values stand also where it was refused.
+#[tactic(auto, unfolding(crate::specs::Numbers::fed_numbers, meaning::specs::Calls::feeding_says, meaning::specs::Calls::refusal_says))]
 pub fn lay_fed(fed: Fed, answer: &mut [u64]) -> bool
     ensures { Laid (fed_numbers (feeding_says fed.ended) fed.taken fed.reading) answer.old result answer.new }
 {
@@ -102,6 +106,7 @@ pub fn lay_fed(fed: Fed, answer: &mut [u64]) -> bool
 }
 
 // The class that a verdict stands for.
+#[tactic(auto, unfolding(meaning::specs::Calls::verdict_says))]
 fn class_of(verdict: Verdict) -> u64
     ensures { result ≡ verdict_says verdict }
 {
@@ -121,6 +126,7 @@ fn lay_judged(judged: Judgement, answer: &mut [u64]) -> bool
 }
 
 // The answer of the end of a reading.
+#[tactic(auto, unfolding(crate::specs::Numbers::answer_numbers, meaning::specs::Calls::end_says, meaning::specs::Calls::refusal_says))]
 pub fn lay_end(end: End, answer: &mut [u64]) -> bool
     ensures { Laid (answer_numbers judged_values (end_says end)) answer.old result answer.new }
 {

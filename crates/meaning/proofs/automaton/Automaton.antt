@@ -4,15 +4,14 @@
 -- word in which `evaluate` is written.
 use mathlib.Core.Path.{◌≡◌, refl, sym, ap, ◌∙◌}
 use mathlib.Core.Logic.{◌↔◌}
-use mathlib.Core.Bool.{Bool, true, false}
+use mathlib.Core.Bool.{true}
 use mathlib.Core.List.{List, [], ◌∷◌, ◌++◌, append_assoc, append-nil}
 use Prim.Native.Nat.{ℕ, zero, suc, ◌+◌, ◌-◌, ◌≤◌, ◌<◌, max}
 use native.Mathlib.Omega.{arith}
 use native.Mathlib.Nat.{add-zero, add_assoc, le-max_left, le-max_right}
 use lib.ListN.{length, length-append}
-use borrow.Author.Tests.{ltb-true, lt-ltb, leb-true, leb-false, lt-leb, ne_eqb}
-use Rattle.meaning.specs.declared.Level.{Level}
-use Rattle.meaning.specs.Answers.{Answer, given, refused, ◌giving◌, ◌≤?◌, if◌then◌else◌}
+use borrow.Author.Tests.{ltb-true, lt-ltb, lt-leb, ne_eqb}
+use Rattle.meaning.specs.Answers.{Answer, given, refused, ◌giving◌}
 use Rattle.meaning.specs.RuleFile.{Rule, Move, no_move, to, letter_move, tree_move, tree_start_move}
 use Rattle.meaning.specs.FullReading.{event_of, most_events, looked, Table, letter_table, start_table, tree_table, no_move_number, Turn, stays, stores, ends, look, new_level, full_turn, known_event, full_event, Run, innermost, outer, run_after, full_step, Went, feed_by}
 use Rattle.meaning.specs.Hedges.{Hedge, ε, ◌·◌, ⟨◌⟩·◌, events_of, known, Goes, by_nothing, by_letter, by_tree, Led, to_state, missing_at, later, by_move, from_there, evaluate, height, deepest_on, deepest}

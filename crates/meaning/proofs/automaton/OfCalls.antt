@@ -1,21 +1,21 @@
 -- Full reading by the calls and the automaton: a reading that was opened, fed and finished with a book of zeros ends with a verdict exactly if
 -- the events are those of a hedge by which the automaton goes from the initial state to the end state, the class is that state's,
 -- and level store, ceiling and event limit suffice. So a full verdict says that the stream is well nested, of known events.
-use mathlib.Core.Path.{◌≡◌, refl, sym, ap, ◌∙◌}
+use mathlib.Core.Path.{◌≡◌, refl, ◌∙◌}
 use mathlib.Core.Logic.{◌↔◌}
-use mathlib.Core.Bool.{true, false}
+use mathlib.Core.Bool.{true}
 use mathlib.Core.List.{List, [], ◌∷◌}
-use Prim.Native.Nat.{ℕ, ◌+◌, ◌≤◌, ◌<◌}
+use Prim.Native.Nat.{ℕ, ◌+◌, ◌≤◌}
 use native.Mathlib.Omega.{arith}
 use lib.ListN.{length}
 use borrow.Author.Tests.{ltb-false, le-ltb}
 use Rattle.meaning.specs.declared.Level.{Level}
 use Rattle.meaning.specs.declared.Opening.{Opening}
 use Rattle.meaning.specs.Answers.{given, ◌<?◌}
-use Rattle.meaning.specs.RuleFile.{Rule, class_of, rule_of}
+use Rattle.meaning.specs.RuleFile.{Rule, rule_of}
 use Rattle.meaning.specs.FullReading.{Went, Run, fresh_reading, fresh_run, full_run}
 use Rattle.meaning.specs.Hedges.{well_nested}
-use Rattle.meaning.specs.StreamingMachine.{Streams, aboves, WithinLimits}
+use Rattle.meaning.specs.StreamingMachine.{aboves, WithinLimits}
 use Rattle.meaning.specs.Skipping.{Zeros}
 use Rattle.meaning.specs.Calls.{Judged, open_call, end_of, end_of_run, ReadsTo}
 use Rattle.meaning.specs.Demands.{FollowsAutomaton}

@@ -4,16 +4,15 @@
 -- stack by some events exactly if the automaton has a partial run on them that does.
 use mathlib.Core.Path.{◌≡◌, refl, sym, ap, ◌∙◌}
 use mathlib.Core.Logic.{◌↔◌}
-use mathlib.Core.Bool.{Bool, true, false}
 use mathlib.Core.List.{List, [], ◌∷◌, ◌++◌, append_assoc, append-nil}
-use Prim.Native.Nat.{ℕ, zero, suc, ◌+◌, ◌-◌, ◌≤◌, ◌<◌, max}
+use Prim.Native.Nat.{ℕ, zero, suc, ◌+◌, ◌-◌, ◌≤◌, ◌<◌}
 use native.Mathlib.Numerals.{add-one}
 use native.Mathlib.Omega.{arith}
 use lib.ListN.{length}
 use borrow.Author.Tests.{leb-false, eqb-false}
 use Rattle.meaning.specs.declared.Reading.{Reading}
 use Rattle.meaning.specs.declared.Level.{Level}
-use Rattle.meaning.specs.Answers.{Answer, given, refused, ◌≤?◌, ◌=?◌}
+use Rattle.meaning.specs.Answers.{given, ◌≤?◌, ◌=?◌}
 use Rattle.meaning.specs.RuleFile.{Rule, to, letter_move, tree_move, tree_start_move}
 use Rattle.meaning.specs.FullReading.{Event, opens, closes, letter, event_of, most_events, looked, new_level, Turn, stays, stores, ends, full_turn, known_event, full_event, Run, innermost, outer, run_after, full_step, Went, feed_by}
 use Rattle.meaning.specs.Hedges.{Hedge, ε, ◌·◌, ⟨◌⟩·◌, events_of, Goes, by_nothing, by_letter, by_tree, deepest_on, deepest}
@@ -21,7 +20,7 @@ use Rattle.meaning.specs.StreamingMachine.{Streams, reads_nothing, reads_letter,
 use Rattle.meaning.proofs.laws.Answered.{giving-given}
 use Rattle.meaning.proofs.laws.Events.{known-letter}
 use Rattle.meaning.proofs.laws.FeedLaws.{feed-none, feed-taken, feed-first}
-use Rattle.meaning.proofs.automaton.Automaton.{OneLook, look-to, letter-look, open-look, close-look, deepest-least}
+use Rattle.meaning.proofs.automaton.Automaton.{look-to, letter-look, open-look, close-look, deepest-least}
 use Rattle.meaning.proofs.stores.Turns.{Gives, gives, gives-refuse, gives-look}
 
 -- ---- the machine on a hedge

@@ -8,7 +8,7 @@ use Prim.Native.Nat.{ℕ, ◌+◌, ◌≤◌}
 use lib.ListN.{length}
 use Rattle.meaning.specs.declared.Level.{Level}
 use Rattle.meaning.specs.declared.Opening.{Opening}
-use Rattle.meaning.specs.Answers.{Answer, given}
+use Rattle.meaning.specs.Answers.{given}
 use Rattle.meaning.specs.RuleFile.{rule_of}
 use Rattle.meaning.specs.FullReading.{most_events, full_run}
 use Rattle.meaning.specs.Hedges.{well_nested}

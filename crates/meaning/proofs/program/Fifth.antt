@@ -11,7 +11,7 @@ use native.Mathlib.Omega.{arith}
 use lib.ListN.{length, take, length-append}
 use lib.Seq.{take_all, take-append_seam}
 use borrow.Author.Tests.{le-ltb, ltb-true, ltb-false, eqb-true, eqb-false, ne_eqb}
-use Rattle.meaning.specs.Answers.{Answer, given, refused, refuse◌at◌when◌otherwise◌, ◌and_then◌, ◌giving◌, ◌<?◌, ◌=?◌, if◌then◌else◌}
+use Rattle.meaning.specs.Answers.{Answer, given, refused, refuse◌at◌when◌otherwise◌, ◌and_then◌, ◌giving◌, ◌=?◌, if◌then◌else◌}
 use Rattle.meaning.specs.RuleFile.{Rule, is_move, is_class, rule_of, check_rule, record_check, numbers_check, table_check, letter_record, tree_record, class_record, file_length, header_length, numbers_length}
 use Rattle.meaning.specs.CheckProgram.{EventsAt, front_length, events_header, events_place, front_check}
 use Rattle.meaning.proofs.laws.Answered.{refuse-passes, refuse-given, and_then-passes, giving-passes, giving-stops, giving-given, if-true, if-false}

@@ -3,13 +3,13 @@
 use mathlib.Core.Path.{◌≡◌, refl, subst}
 use mathlib.Core.Bool.{Bool, true, not}
 use mathlib.Core.List.{List, [], ◌∷◌}
-use Prim.Native.Nat.{ℕ, zero, suc, ◌+◌, ◌*◌, ◌≤◌, ◌<◌, ◌-◌}
+use Prim.Native.Nat.{ℕ, zero, suc, ◌+◌, ◌*◌, ◌≤◌, ◌<◌}
 use native.Mathlib.Nat.{not-suc-le-zero, le_of_suc-le-suc}
 use native.Mathlib.Omega.{arith}
 use lib.ListN.{length, get_or, drop, length-drop}
 use lib.Seq.{length-take-le}
 use borrow.Author.Tests.{ltb-false, leb-true}
-use Rattle.meaning.specs.Answers.{given, ◌and_then◌, ◌≤?◌}
+use Rattle.meaning.specs.Answers.{given, ◌≤?◌}
 use Rattle.meaning.specs.RuleFile.{Rule, IsRule, is_states, is_state, is_move, is_class, is_letters, part, rule_of, check_rule, record_check, numbers_check, table_check, letter_record, tree_record, class_record, file_length, header_length, numbers_length, most_states, most_letters}
 use Rattle.meaning.proofs.laws.Answered.{refuse-given, and_then-given, not-false-true, and-true}
 

@@ -13,7 +13,7 @@ use Rattle.meaning.specs.Answers.{Answer, given, refused, refuse◌at◌when◌o
 use Rattle.meaning.specs.RuleFile.{Rule, Move, no_move, to}
 use Rattle.meaning.specs.FullReading.{Event, opens, closes, letter, event_of, looked, Table, look, Turn, full_turn, known_event, Went, go_on, feed_by}
 use Rattle.meaning.specs.Skipping.{passed, ends_level, settled_turn, skip_turn, skip_event}
-use Rattle.meaning.specs.Calls.{events_taken, StoppedAt, TookFirst, Stored, stored_after, store_step, reading_check, feed_call}
+use Rattle.meaning.specs.Calls.{events_taken, TookFirst, Stored, stored_after, store_step, reading_check, feed_call}
 use Rattle.meaning.proofs.laws.FeedLaws.{feed-taken}
 use Rattle.meaning.proofs.stores.ReadingCheck.{feed-checked, feed-unchecked}
 use Rattle.meaning.proofs.stores.StoreView.{step-turned}

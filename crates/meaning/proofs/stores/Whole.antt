@@ -10,7 +10,6 @@ use Rattle.meaning.specs.declared.Opening.{Opening}
 use Rattle.meaning.specs.Answers.{given, refused}
 use Rattle.meaning.specs.RuleFile.{rule_of}
 use Rattle.meaning.specs.FullReading.{Went, feed_by}
-use Rattle.meaning.specs.SkipBook.{book_after}
 use Rattle.meaning.specs.Calls.{Stored, open_call, opened_book, store_step, top_of, end_of, feed_call, finish_call, finish_fed, largest_ceiling, read_with, whole_from, whole_document}
 use Rattle.meaning.proofs.laws.Answered.{giving-passes, giving-stops}
 use Rattle.meaning.proofs.stores.ReadingCheck.{feed-checked, finish-checked, fed-checked}

@@ -1,5 +1,5 @@
 -- The end is the definition's, of the innermost record.
-use Rattle.std.proofs.Common.{◌≡◌, sym, ap, ◌∙◌, ℕ, get_or}
+use Rattle.std.proofs.Common.{ap, ◌∙◌, ℕ, get_or}
 use Rattle.meaning.specs.Answers.{◌giving◌}
 use Rattle.meaning.specs.FullReading.{blank}
 use Rattle.meaning.specs.RuleFile.{rule_of}

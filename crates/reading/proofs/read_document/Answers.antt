@@ -1,10 +1,7 @@
 -- Feeding begins after opening, and what it comes to is ended as the definition says.
-use Rattle.std.proofs.Common.{◌≡◌, ap, ◌∙◌, ℕ, get_or}
-use Rattle.meaning.specs.Answers.{◌giving◌}
+use Rattle.std.proofs.Common.{ap, ◌∙◌, ℕ, get_or}
 use Rattle.meaning.specs.FullReading.{blank}
-use Rattle.meaning.specs.RuleFile.{rule_of}
-use Rattle.meaning.specs.Calls.{top_of, end_of, feeding_says}
-use Rattle.meaning.specs.declared.Level.{Level}
+use Rattle.meaning.specs.Calls.{top_of}
 use Rattle.reading.proofs.WholeRead.{document-goes, document-needs, document-comes}
 use Rattle.reading.proofs.read_document.Goals as goal
 

@@ -1,5 +1,5 @@
 -- What is seen of the store is what it holds.
-use Rattle.std.proofs.Common.{◌≡◌, refl, sym, ap, ◌∙◌, ℕ, ◌-◌, ◌≤◌, List, length, get_or}
+use Rattle.std.proofs.Common.{◌≡◌, sym, ap, ◌∙◌, ℕ, ◌-◌, ◌≤◌, List, length, get_or}
 use Rattle.meaning.specs.FullReading.{blank}
 use Rattle.meaning.specs.Calls.{top_of}
 use Rattle.meaning.specs.declared.Level.{Level}

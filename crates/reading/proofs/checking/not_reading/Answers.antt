@@ -1,9 +1,8 @@
 -- The six conditions in their order: each that holds is the definition's, and each that does not is passed.
-use Rattle.std.proofs.Common.{◌≡◌, sym, ◌∙◌, true, false, not, ◌&&◌, List, ℕ, ◌-◌, ◌<◌, ◌≤◌, length, arith}
+use Rattle.std.proofs.Common.{◌≡◌, sym, ◌∙◌, true, false, List, ℕ, ◌-◌, ◌<◌, ◌≤◌, length, arith}
 use borrow.Author.Tests.{lt-ltb, le-ltb, ltb-true}
 use Rattle.meaning.specs.Answers.{◌<?◌}
 use Rattle.meaning.specs.RuleFile.{is_state}
-use Rattle.meaning.specs.Skipping.{settled}
 use Rattle.meaning.specs.Calls.{top_of, not_reading}
 use Rattle.meaning.specs.declared.Level.{Level}
 use Rattle.meaning.specs.declared.Reading.{Reading}

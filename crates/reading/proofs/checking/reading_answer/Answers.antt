@@ -1,10 +1,9 @@
 -- The rule, 6, 13: each by the law of the answer that it gives.
-use Rattle.std.proofs.Common.{◌≡◌, sym, ◌∙◌, List, ℕ, arith}
+use Rattle.std.proofs.Common.{sym, ◌∙◌, arith}
 use Rattle.meaning.specs.Calls.{refusal_says}
-use Rattle.meaning.specs.declared.Level.{Level}
-use Rattle.rule.specs.Says.{checked_says, check_answer, RuleOf}
+use Rattle.rule.specs.Says.{checked_says}
 use Rattle.rule.proofs.Said.{refused-check}
-use Rattle.reading.specs.Checks.{rule_in, Seen}
+use Rattle.reading.specs.Checks.{rule_in}
 use Rattle.reading.proofs.Checks.{ruled-by, answer-rule, answer-short, answer-unread, answer-fine}
 use Rattle.turning.proofs.Turned.{states-are, few-states}
 use Rattle.reading.proofs.checking.reading_answer.Goals as goal

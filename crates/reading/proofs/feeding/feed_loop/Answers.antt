@@ -1,9 +1,9 @@
 -- A turn may count on a reading while an event is left, and what it does is done.
-use Rattle.std.proofs.Common.{◌≡◌, ◌∙◌, refl, sym, ap, List, ℕ, ◌-◌, ◌<◌, length, get_or, set, arith}
+use Rattle.std.proofs.Common.{◌≡◌, ◌∙◌, sym, ap, List, ℕ, ◌-◌, ◌<◌, get_or, arith}
 use Rattle.meaning.specs.FullReading.{blank}
 use Rattle.meaning.specs.Calls.{top_of}
 use Rattle.meaning.specs.declared.Level.{Level}
-use Rattle.turning.proofs.OneTurn.{Underway, underway-ready, underway-next, underway-ends}
+use Rattle.turning.proofs.OneTurn.{underway-ready, underway-next, underway-ends}
 use Rattle.reading.proofs.feeding.feed_loop.Goals as goal
 
 -- what was read of the store is the innermost record
