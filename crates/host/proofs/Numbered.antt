@@ -1,12 +1,13 @@
 -- Where the first number of an answer is 0, the answer was given: no call refuses with the number 0. Each definition of a call
 -- is built of refusals that have their numbers beside them, so one law for each word of the definitions is enough.
+use Rattle.std.proofs.Common.{if◌then◌else◌}
 use mathlib.Core.Path.{◌≡◌, refl}
 use mathlib.Core.Bool.{Bool, true, false}
 use mathlib.Core.List.{List, [], ◌∷◌}
 use Prim.Native.Nat.{ℕ, suc, ◌<◌}
 use native.Mathlib.Omega.{arith}
 use lib.ListN.{get_or}
-use Rattle.meaning.specs.Answers.{Answer, given, refused, refuse◌at◌when◌otherwise◌, ◌and_then◌, ◌giving◌, if◌then◌else◌}
+use Rattle.meaning.specs.Answers.{Answer, given, refused, refuse◌at◌when◌otherwise◌, ◌and_then◌, ◌giving◌}
 use Rattle.meaning.specs.RuleFile as format
 use Rattle.meaning.specs.RuleFile.{Move, no_move, to, numbers_check, table_check, record_check, check_rule, write_check}
 use Rattle.meaning.specs.FullReading.{Event, opens, closes, letter, event_of, Turn, Table, letter_table, start_table, tree_table, no_move_number, look, full_turn, known_event, Went, go_on, feed_by}
@@ -42,7 +43,6 @@ gives (given a) f n m = m a
 gives (refused number place) f (is_refused h) m = is_refused h
 
 either : {A : Type 0} (b : Bool) (x y : Answer A) → Numbered x → Numbered y → Numbered (if b then x else y)
-unfolding if◌then◌else◌
 either true x y n m = n
 either false x y n m = m
 

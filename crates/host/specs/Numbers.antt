@@ -1,7 +1,7 @@
 -- What the exported calls lay into the lent answer: the number of the refusal or 0, its place or 0, and then the values that
 -- were given. They go in front of what the answer held; an answer that is too short for them stays as it was.
-use Rattle.std.specs.Prelude.{ℕ, ◌≡◌, Bool, List, [], ◌∷◌, ◌++◌, length, drop}
-use Rattle.meaning.specs.Answers.{Answer, given, refused, ◌≤?◌, if◌then◌else◌}
+use Rattle.std.specs.Prelude.{ℕ, ◌≡◌, Bool, List, [], ◌∷◌, ◌++◌, length, drop, if◌then◌else◌}
+use Rattle.meaning.specs.Answers.{Answer, given, refused, ◌≤?◌}
 use Rattle.meaning.specs.FullReading.{Went}
 use Rattle.meaning.specs.Calls.{Judged, Stored, events_taken, Whole}
 use Rattle.meaning.specs.declared.Level.{Level}

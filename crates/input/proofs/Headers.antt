@@ -54,7 +54,7 @@ missing input e = rw e (giving-stops _ refl)
 
 pub starts : (input : List ℕ) {place : ℕ} → check_rule input ≡ refused 5 place → front_check input ≡ header_answer input place
 unfolding front_check events_place header_answer
-starts input e = rw e (giving-passes _ (if-true _ _ refl))
+starts input {place} e = rw e (giving-passes _ (if-true (given place) (refused 5 place) refl))
 
 pub bad-rule : (input : List ℕ) {number place : ℕ} → check_rule input ≡ refused number place → (number ≡ 5 → ⊥)
     → front_check input ≡ refused number place

@@ -1,6 +1,6 @@
 -- Events decoded into the front of a lent slice: as many as there are whole pairs of bytes, and no more than fit.
-use Rattle.std.specs.Prelude.{ℕ, ◌*◌, ◌/◌, List, ◌++◌, take, drop}
-use Rattle.meaning.specs.Answers.{◌≤?◌, if◌then◌else◌}
+use Rattle.std.specs.Prelude.{ℕ, ◌*◌, ◌/◌, List, ◌++◌, take, drop, if◌then◌else◌}
+use Rattle.meaning.specs.Answers.{◌≤?◌}
 use Rattle.meaning.specs.CheckProgram.{events_in}
 
 unfoldable pub event_count : ℕ → ℕ → ℕ

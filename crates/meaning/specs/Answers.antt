@@ -8,7 +8,6 @@ infixr 10 ◌giving◌
 infix 40 ◌≤?◌
 infix 40 ◌<?◌
 infix 40 ◌=?◌
-infix 15 if◌then◌else◌
 -- tests of two numbers, which answer true or false
 abbrev pub ◌≤?◌ : ℕ → ℕ → Bool
 m ≤? n = leb m n
@@ -18,10 +17,6 @@ m <? n = ltb m n
 
 abbrev pub ◌=?◌ : ℕ → ℕ → Bool
 m =? n = eqb m n
-
-unfoldable pub if◌then◌else◌ : {A : Type 0} → Bool → A → A → A
-if true then a else b = a
-if false then a else b = b
 
 -- what was asked for, or a refusal: its number and its place
 pub data Answer (A : Type 0) : Type 0 where

@@ -1,6 +1,6 @@
 -- The calls (document 01, "Calls and numbers"): for each, its answer on every input and what it leaves in each lent slice.
 -- The rule check and the writer stand with their own heading. Every call here takes the rule as the bytes of its file.
-use Rattle.std.specs.Prelude.{ℕ, ◌+◌, ◌-◌, ◌≤◌, ◌<◌, ◌≡◌, Bool, not, ◌&&◌, ◌||◌, List, length, get_or, set, take}
+use Rattle.std.specs.Prelude.{ℕ, ◌+◌, ◌-◌, ◌≤◌, ◌<◌, ◌≡◌, Bool, not, ◌&&◌, ◌||◌, List, length, get_or, set, take, if◌then◌else◌}
 use Rattle.meaning.specs.declared.Reading.{Reading}
 use Rattle.meaning.specs.declared.Level.{Level}
 use Rattle.meaning.specs.declared.Refusal.{Refusal}
@@ -13,7 +13,7 @@ use Rattle.meaning.specs.declared.End.{End}
 use Rattle.meaning.specs.declared.End.TheVariants as end
 use Rattle.meaning.specs.declared.Feeding.{Feeding}
 use Rattle.meaning.specs.declared.Feeding.TheVariants as feeding
-use Rattle.meaning.specs.Answers.{Answer, given, refused, refuse◌at◌when◌otherwise◌, ◌and_then◌, ◌giving◌, ◌<?◌, if◌then◌else◌}
+use Rattle.meaning.specs.Answers.{Answer, given, refused, refuse◌at◌when◌otherwise◌, ◌and_then◌, ◌giving◌, ◌<?◌}
 use Rattle.meaning.specs.RuleFile.{Rule, is_state, class_of, check_rule, rule_of}
 use Rattle.meaning.specs.FullReading.{Turn, stays, stores, ends, Run, innermost, blank, fresh_reading, Went, feed_by}
 use Rattle.meaning.specs.SkipBook.{all_below, book_check, make_book, book_after}

@@ -1,7 +1,7 @@
 -- The check program (document 01, the end of "Two small rules"): what its input is, and what its two lines say. The input is the
 -- four records of a rule, then one record of kind 5 whose body is the events, two bytes each, little-endian, and nothing after.
-use Rattle.std.specs.Prelude.{ℕ, zero, suc, ◌+◌, ◌*◌, ◌/◌, ◌%◌, not, List, [], ◌∷◌, ◌++◌, length, take, replicate}
-use Rattle.meaning.specs.Answers.{Answer, given, refused, refuse◌at◌when◌otherwise◌, ◌giving◌, ◌<?◌, ◌=?◌, if◌then◌else◌}
+use Rattle.std.specs.Prelude.{ℕ, zero, suc, ◌+◌, ◌*◌, ◌/◌, ◌%◌, not, List, [], ◌∷◌, ◌++◌, length, take, replicate, if◌then◌else◌}
+use Rattle.meaning.specs.Answers.{Answer, given, refused, refuse◌at◌when◌otherwise◌, ◌giving◌, ◌<?◌, ◌=?◌}
 use Rattle.meaning.specs.RuleFile.{Rule, header_length, number2, number4, part, rule_of, check_rule}
 use Rattle.meaning.specs.FullReading.{Went, fresh_reading, blank}
 use Rattle.meaning.specs.SkipBook.{book_of}

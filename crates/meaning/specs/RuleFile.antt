@@ -1,7 +1,7 @@
 -- The rule file (document 01, "Rule file"): four records in a fixed order, nothing after. A record is a length of four
 -- bytes, a kind of two bytes, both little-endian, and then the body. A byte is a number below 256, and a file is a list of bytes.
-use Rattle.std.specs.Prelude.{ℕ, suc, ◌+◌, ◌*◌, ◌/◌, ◌%◌, ◌<◌, ◌≡◌, Bool, true, not, ◌&&◌, ◌||◌, List, [], ◌∷◌, ◌++◌, length, get_or, take, drop}
-use Rattle.meaning.specs.Answers.{Answer, given, refuse◌at◌when◌otherwise◌, ◌and_then◌, ◌≤?◌, ◌<?◌, ◌=?◌, if◌then◌else◌}
+use Rattle.std.specs.Prelude.{ℕ, suc, ◌+◌, ◌*◌, ◌/◌, ◌%◌, ◌<◌, ◌≡◌, Bool, true, not, ◌&&◌, ◌||◌, List, [], ◌∷◌, ◌++◌, length, get_or, take, drop, if◌then◌else◌}
+use Rattle.meaning.specs.Answers.{Answer, given, refuse◌at◌when◌otherwise◌, ◌and_then◌, ◌≤?◌, ◌<?◌, ◌=?◌}
 
 -- ---- the numbers of the format, named here once
 

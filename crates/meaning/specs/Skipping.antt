@@ -1,9 +1,9 @@
 -- Skipping (document 01, "Skipping"): on a settled level nothing is looked up until the close that ends it. Any book is
 -- obeyed as it stands.
-use Rattle.std.specs.Prelude.{ℕ, ◌+◌, ◌-◌, ◌<◌, ◌≡◌, Bool, ◌&&◌, ◌||◌, List, get_or}
+use Rattle.std.specs.Prelude.{ℕ, ◌+◌, ◌-◌, ◌<◌, ◌≡◌, Bool, ◌&&◌, ◌||◌, List, get_or, if◌then◌else◌}
 use Rattle.meaning.specs.declared.Reading.{Reading}
 use Rattle.meaning.specs.declared.Level.{Level}
-use Rattle.meaning.specs.Answers.{Answer, given, ◌giving◌, ◌<?◌, if◌then◌else◌}
+use Rattle.meaning.specs.Answers.{Answer, given, ◌giving◌, ◌<?◌}
 use Rattle.meaning.specs.RuleFile.{Rule}
 use Rattle.meaning.specs.FullReading.{Event, opens, closes, letter, event_of, Turn, stays, ends, full_turn, known_event, Run, innermost, run_after, Went, feed_by, fresh_run}
 use Rattle.meaning.specs.SkipBook.{in_still, in_hold}

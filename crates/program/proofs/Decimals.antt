@@ -1,4 +1,5 @@
 -- The kit's digits are the decimal digits of the definitions, and these are 20 at the most.
+use Rattle.std.proofs.Common.{if◌then◌else◌}
 use mathlib.Core.Path.{◌≡◌, refl, sym, ap, ◌∙◌}
 use mathlib.Core.Bool.{Bool, true, false}
 use mathlib.Core.List.{List, [], ◌∷◌, ◌++◌}
@@ -11,7 +12,7 @@ use lib.ListN.{length, length-append}
 use lib.Pow.{pow-add}
 use borrow.Author.Tests.{lt-ltb, eq-eqb, ne_eqb}
 use Rattle.io.specs.Digits.{hex_digit_ascii, last_digits, IsDigitCount}
-use Rattle.meaning.specs.Answers.{if◌then◌else◌, ◌=?◌}
+use Rattle.meaning.specs.Answers.{◌=?◌}
 use Rattle.meaning.specs.CheckProgram.{digits_in, decimal}
 use Rattle.meaning.proofs.laws.Answered.{if-true, if-false}
 
@@ -76,7 +77,6 @@ decimal-digits n (suc k) word few =
 
 -- either of two lists that are no longer than that
 either-few : (b : Bool) (x y : List ℕ) (most : ℕ) → length x ≤ most → length y ≤ most → length (if b then x else y) ≤ most
-unfolding if◌then◌else◌
 either-few true x y most h k = h
 either-few false x y most h k = k
 

@@ -1,5 +1,6 @@
 -- The bytes that the tables are read at are the moves and the classes of an accepted file's rule: a table is a part of the
 -- file, and an entry of a part stands in the file at the part's place and on.
+use Rattle.std.proofs.Common.{if◌then◌else◌}
 use mathlib.Core.Path.{◌≡◌, refl, sym, ap, ◌∙◌}
 use mathlib.Core.Bool.{Bool, true, false}
 use mathlib.Core.List.{List, [], ◌∷◌}
@@ -8,7 +9,7 @@ use native.Mathlib.Nat.{not-suc-le-zero, le_of_suc-le-suc, mul-le-mul_right, suc
 use native.Mathlib.Omega.{arith}
 use lib.ListN.{length, get_or}
 use lib.Seq.{get_or-take, get_or-drop}
-use Rattle.meaning.specs.Answers.{given, if◌then◌else◌, ◌=?◌}
+use Rattle.meaning.specs.Answers.{given, ◌=?◌}
 use Rattle.meaning.specs.RuleFile.{Rule, to, no_move, none, part, check_rule, as_move, letter_move, tree_move, class_of}
 use Rattle.meaning.proofs.rulefile.Accepted.{accepted-is-rule, letter-part, tree-part, class-part}
 use Rattle.rule.specs.declared.tables.Table.{Table}
@@ -33,7 +34,7 @@ entry-below row column rows columns h g =
 
 -- what is found at a byte is the move that the byte is
 pub found-is : (table : Table) (byte : ℕ) → move_says (move_in table byte) ≡ as_move byte
-unfolding move_in move_says as_move if◌then◌else◌
+unfolding move_in move_says as_move
 found-is table byte = go (byte =? none)
   where
     go : (is_none : Bool) → move_says (if is_none then (NoneIn table) else (To byte)) ≡ if is_none then no_move else (to byte)

@@ -1,7 +1,7 @@
 -- Where the entries of the three tables lie in the bytes of a rule file, and the move that a byte stands for, which says in
 -- which table there is none. `proofs/Looks.antt` has that they are the moves and the classes of the rule.
-use Rattle.std.specs.Prelude.{ℕ, ◌+◌, ◌*◌, List, get_or}
-use Rattle.meaning.specs.Answers.{if◌then◌else◌, ◌=?◌}
+use Rattle.std.specs.Prelude.{ℕ, ◌+◌, ◌*◌, List, get_or, if◌then◌else◌}
+use Rattle.meaning.specs.Answers.{◌=?◌}
 use Rattle.meaning.specs.RuleFile.{none, header_length, letter_record, tree_record, class_record}
 use Rattle.meaning.specs.RuleFile as format
 use Rattle.meaning.specs.FullReading as full

@@ -1,6 +1,7 @@
 -- Counting over runs of events. A run of known events whose closes are no more than the skip depth is passed over: no close of
 -- it can end the level, since the closes before it and it are no more than that depth. So is a run whose lowest depth, from the
 -- skip depth, is not below zero; runs that were followed side by side are joined, each moved to where the one before it ended.
+use Rattle.std.proofs.Common.{if◌then◌else◌}
 use mathlib.Core.Path.{◌≡◌, refl, ◌∙◌}
 use mathlib.Core.Bool.{Bool, true, false}
 use mathlib.Core.List.{List, [], ◌∷◌, ◌++◌}
@@ -10,7 +11,7 @@ use native.Mathlib.Omega.{arith}
 use borrow.Author.Tests.{lt-leb, leb-false, eq-eqb, ne_eqb}
 use lib.ListN.{length, get_or, take, drop, length-append, length-take, length-drop}
 use lib.Seq.{take-suc, take-add, take-length, length-take-le, drop-drop, get_or-drop}
-use Rattle.meaning.specs.Answers.{◌=?◌, ◌≤?◌, if◌then◌else◌}
+use Rattle.meaning.specs.Answers.{◌=?◌, ◌≤?◌}
 use Rattle.meaning.proofs.laws.Answered.{if-true, if-false}
 use Rattle.turning.specs.PassingOver.{openings, closings, unknowns, total, Passing, pass_none, pass_one, one_more, joined, DepthsOf, PassedIn}
 use Rattle.turning.specs.declared.passing.Depths.{Depths}
@@ -18,12 +19,10 @@ use Rattle.turning.specs.declared.passing.Depths.{Depths}
 -- ---- one event: one or none
 
 one-or-none : (b : Bool) → (if b then 1 else 0) ≤ 1
-unfolding if◌then◌else◌
 one-or-none true = omega arith
 one-or-none false = omega arith
 
 none-false : (b : Bool) → ◌≡◌ {A = ℕ} (if b then 1 else 0) 0 → b ≡ false
-unfolding if◌then◌else◌
 none-false true e = absurd (omega arith)
 none-false false e = refl
 

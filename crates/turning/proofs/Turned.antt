@@ -1,5 +1,6 @@
 -- Laws of one event, which the proofs of the functions cite: what a look in a table gives, which event a number is, and that
 -- the numbers the code holds are those of the rule.
+use Rattle.std.proofs.Common.{if◌then◌else◌}
 use mathlib.Core.Path.{◌≡◌, refl, sym, ap, ◌∙◌}
 use mathlib.Core.Bool.{Bool, true, false, ◌||◌}
 use mathlib.Core.List.{List}
@@ -7,7 +8,7 @@ use Prim.Native.Nat.{ℕ, zero, suc, ◌+◌, ◌-◌, ◌≤◌, ◌<◌}
 use native.Mathlib.Omega.{arith}
 use borrow.Author.Tests.{ne_eqb, leb-true, lt-leb, ltb-true}
 use lib.ListN.{length}
-use Rattle.meaning.specs.Answers.{Answer, given, refused, refuse◌at◌when◌otherwise◌, if◌then◌else◌, ◌≤?◌, ◌=?◌}
+use Rattle.meaning.specs.Answers.{Answer, given, refused, refuse◌at◌when◌otherwise◌, ◌≤?◌, ◌=?◌}
 use Rattle.meaning.specs.RuleFile.{none, most_states, most_letters, class_count, as_move, class_of, is_class, is_states, is_letters, rule_of, to, no_move, tree_start_move}
 use Rattle.meaning.specs.FullReading.{opens, closes, letter, event_of, most_events, known_event, look, looked, new_level, full_turn, Turn, stays, stores, ends}
 use Rattle.meaning.specs.SkipBook.{in_still}
@@ -42,7 +43,7 @@ module _ (ceiling : ℕ) (r : Reading) (table : Table) (byte : ℕ) (next : ℕ 
   turn_by (Refused number) = refused number r.taken
 
   look_is : look_at ≡ turn_by (look_answer ceiling r (move_in table byte))
-  unfolding look_answer found_answer move_in if◌then◌else◌ refuse◌at◌when◌otherwise◌ look as_move turn_by
+  unfolding look_answer found_answer move_in refuse◌at◌when◌otherwise◌ look as_move turn_by
   look_is = go (ceiling ≤? r.looks) (byte =? none)
     where
       go : (full is_none : Bool)

@@ -1,7 +1,7 @@
 -- A run of events that is passed over on a settled level by counting alone: feeding goes on from where it was left as it would
 -- have gone on from where it began.
-use Rattle.std.specs.Prelude.{ℕ, ◌+◌, ◌-◌, ◌≤◌, ◌<◌, min, true, ◌≡◌, List, [], ◌∷◌, length, take, drop}
-use Rattle.meaning.specs.Answers.{◌=?◌, ◌≤?◌, if◌then◌else◌}
+use Rattle.std.specs.Prelude.{ℕ, ◌+◌, ◌-◌, ◌≤◌, ◌<◌, min, true, ◌≡◌, List, [], ◌∷◌, length, take, drop, if◌then◌else◌}
+use Rattle.meaning.specs.Answers.{◌=?◌, ◌≤?◌}
 use Rattle.meaning.specs.RuleFile.{Rule}
 use Rattle.meaning.specs.FullReading.{feed_by}
 use Rattle.meaning.specs.Skipping.{settled}

@@ -1,6 +1,6 @@
 -- What one event leads to, as the code has it and as the definitions have it, and what the code may count on there.
-use Rattle.std.specs.Prelude.{ℕ, ◌+◌, ◌≤◌, ◌<◌, ◌≡◌, Bool, false, List, length}
-use Rattle.meaning.specs.Answers.{Answer, given, refused, if◌then◌else◌, ◌≤?◌}
+use Rattle.std.specs.Prelude.{ℕ, ◌+◌, ◌≤◌, ◌<◌, ◌≡◌, Bool, false, List, length, if◌then◌else◌}
+use Rattle.meaning.specs.Answers.{Answer, given, refused, ◌≤?◌}
 use Rattle.meaning.specs.FullReading as full
 use Rattle.meaning.specs.FullReading.{stays, stores, ends, most_events, no_move_number}
 use Rattle.meaning.specs.RuleFile.{rule_of}

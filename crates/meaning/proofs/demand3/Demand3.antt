@@ -1,6 +1,7 @@
 -- Demand 3 of document 01: where full reading ends with a verdict, skipping with the rule's own book ends with the same
 -- verdict in the same state, and its looks are the events not passed over. One statement relates the two readings, and every
 -- event that full reading takes keeps it: on a settled level skipping stands still while full reading moves within Reach.
+use Rattle.std.proofs.Common.{if◌then◌else◌}
 use mathlib.Core.Path.{◌≡◌, refl, ◌∙◌}
 use mathlib.Core.Bool.{Bool, true, false, not, ◌&&◌, ◌||◌}
 use mathlib.Core.List.{List, [], ◌∷◌, ◌++◌}
@@ -10,7 +11,7 @@ use lib.ListN.{length}
 use borrow.Author.Tests.{lt-ltb, le-ltb, ltb-true, ltb-false, leb-false, lt-leb}
 use Rattle.meaning.specs.declared.Reading.{Reading}
 use Rattle.meaning.specs.declared.Level.{Level}
-use Rattle.meaning.specs.Answers.{Answer, given, refused, ◌≤?◌, ◌<?◌, if◌then◌else◌}
+use Rattle.meaning.specs.Answers.{Answer, given, refused, ◌≤?◌, ◌<?◌}
 use Rattle.meaning.specs.RuleFile.{Rule, IsRule, to, letter_move, tree_move, tree_start_move}
 use Rattle.meaning.specs.FullReading.{Event, opens, closes, letter, event_of, letter_table, start_table, tree_table, fresh_run, full_run}
 use Rattle.meaning.specs.FullReading.{Turn, ends, looked, new_level, full_turn, known_event, full_event, full_step}
@@ -425,7 +426,6 @@ ends-alike rule own (simulates {r} {r'} {τ} {σ} along) judged =
 
 -- an event counts once at most
 at_most_one : (b : Bool) → (if b then 0 else 1) ≤ 1
-unfolding if◌then◌else◌
 at_most_one true = omega arith
 at_most_one false = omega arith
 

@@ -1,6 +1,7 @@
 -- Demand 3 about the calls themselves: for every file that is opened, the book that opening wrote and the reading that it gave,
 -- every stream of events, every level store and every ceiling. A feed over the lent store is a run over levels, and with a book
 -- of zeros it is full reading; so what is proved of runs is proved of the calls.
+use Rattle.std.proofs.Common.{if◌then◌else◌}
 use mathlib.Core.Path.{◌≡◌, refl, sym, ap, ap₂, ◌∙◌}
 use mathlib.Core.List.{List}
 use Prim.Native.Nat.{ℕ, zero, suc, ◌+◌, ◌-◌, ◌≤◌}
@@ -9,7 +10,7 @@ use lib.ListN.{length, get_or}
 use Rattle.meaning.specs.declared.Reading.{Reading}
 use Rattle.meaning.specs.declared.Level.{Level}
 use Rattle.meaning.specs.declared.Opening.{Opening}
-use Rattle.meaning.specs.Answers.{given, if◌then◌else◌, ◌<?◌}
+use Rattle.meaning.specs.Answers.{given, ◌<?◌}
 use Rattle.meaning.specs.RuleFile.{Rule, check_rule, rule_of}
 use Rattle.meaning.specs.FullReading.{Went, Run, innermost, fresh_reading, blank, feed_by, fresh_run, full_run}
 use Rattle.meaning.specs.Calls.{Judged, Stored, open_call, opened_book, store_step, top_of, open_place, end_of, feed_call, finish_call, reading_check, end_of_run, ReadsTo}
@@ -26,7 +27,7 @@ use Rattle.meaning.proofs.demand3.Demand3.{demand-3}
 place_same : (depth taken : ℕ) (store : List Level)
     → (if 0 <? depth then (get_or store (depth - 1) blank).opened else taken)
     ≡ (if 0 <? depth then (innermost (levels_of depth store)).opened else taken)
-unfolding innermost levels_of if◌then◌else◌
+unfolding innermost levels_of
 place_same zero taken store = refl
 place_same (suc d) taken store =
     let down : suc d - 1 ≡ d = omega arith in

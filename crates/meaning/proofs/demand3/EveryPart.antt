@@ -2,6 +2,7 @@
 -- them, for every i, skipping with the rule's own book has taken those i, and its looks so far are those of them that full
 -- reading does not mark as passed over; and the next event is a look exactly if it is not passed over. A first part of events
 -- that are all taken is all taken, so what is proved of whole runs holds of it.
+use Rattle.std.proofs.Common.{if◌then◌else◌}
 use mathlib.Core.Path.{◌≡◌, refl, ap, ◌∙◌}
 use mathlib.Core.List.{List, [], ◌∷◌, ◌++◌}
 use Prim.Native.Nat.{ℕ, ◌+◌, ◌≤◌, ◌<◌}
@@ -12,7 +13,7 @@ use lib.Seq.{take-suc}
 use Rattle.meaning.specs.declared.Reading.{Reading}
 use Rattle.meaning.specs.declared.Level.{Level}
 use Rattle.meaning.specs.declared.Opening.{Opening}
-use Rattle.meaning.specs.Answers.{Answer, given, refused, if◌then◌else◌}
+use Rattle.meaning.specs.Answers.{Answer, given, refused}
 use Rattle.meaning.specs.RuleFile.{Rule, IsRule, rule_of}
 use Rattle.meaning.specs.FullReading.{Run, Went, go_on, feed_by, full_step, fresh_run, full_run}
 use Rattle.meaning.specs.SkipBook.{IsBook}

@@ -114,8 +114,8 @@ module _ (R : Rule) (book : List ℕ) (room ceiling : ℕ) (r : Reading) (top : 
   settled_same (letter a) = both_give (further r.taken t aboves)
   settled_same opens = both_give (further r.taken t aboves)
   settled_same closes =
-      if-each _ (λ more. both_give (further r.taken t aboves))
-      λ last. if-each _ (λ holds. both_give (further r.taken t (same-outer aboves))) (λ free. full-same closes)
+      if-each (0 <? r.skip) (λ more. both_give (further r.taken t aboves))
+      λ last. if-each (held book r top) (λ holds. both_give (further r.taken t (same-outer aboves))) (λ free. full-same closes)
 
   event-same : (e : ℕ) → ((most_events ≤? r.taken) ≡ false → (most_events ≤? t) ≡ false)
       → Follows (λ turn turn'. (r.taken < most_events) × Both turn turn') (skip_event R book room ceiling r top e)

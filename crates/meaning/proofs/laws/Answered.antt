@@ -1,20 +1,19 @@
 -- Laws of the words in which the definitions are written: what a check that passes lets through, and what an answer that was
 -- given says of the checks before it. Whoever uses a definition goes by these and does not open the words.
+use Rattle.std.proofs.Common.{if◌then◌else◌}
 use mathlib.Core.Path.{◌≡◌, refl}
 use mathlib.Core.Bool.{Bool, true, false, not, ◌&&◌, ◌||◌}
 use Prim.Native.Nat.{ℕ}
 use native.Mathlib.Omega.{arith}
-use Rattle.meaning.specs.Answers.{Answer, given, refused, refuse◌at◌when◌otherwise◌, ◌and_then◌, ◌giving◌, if◌then◌else◌}
+use Rattle.meaning.specs.Answers.{Answer, given, refused, refuse◌at◌when◌otherwise◌, ◌and_then◌, ◌giving◌}
 
 -- ---- if
 
 pub if-true : {A : Type 0} {b : Bool} (x y : A) → b ≡ true → (if b then x else y) ≡ x
-unfolding if◌then◌else◌
-if-true x y e = rw (e, if◌then◌else◌)
+if-true x y e = rw e
 
 pub if-false : {A : Type 0} {b : Bool} (x y : A) → b ≡ false → (if b then x else y) ≡ y
-unfolding if◌then◌else◌
-if-false x y e = rw (e, if◌then◌else◌)
+if-false x y e = rw e
 
 -- ---- refuse
 

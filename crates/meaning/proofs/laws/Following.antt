@@ -1,12 +1,13 @@
 -- How two ways of reading are compared, event by event: where the first gives something, the second does too, and the two
 -- are related. One law for each word in which the definitions are written, so that a comparison follows their text; and one
 -- for feeding, by induction over the events.
+use Rattle.std.proofs.Common.{if◌then◌else◌}
 use mathlib.Core.Path.{◌≡◌, refl}
 use mathlib.Core.Bool.{Bool, true, false}
 use mathlib.Core.List.{List, [], ◌∷◌}
 use Prim.Native.Nat.{ℕ}
 use native.Mathlib.Omega.{arith}
-use Rattle.meaning.specs.Answers.{Answer, given, refused, refuse◌at◌when◌otherwise◌, ◌giving◌, if◌then◌else◌}
+use Rattle.meaning.specs.Answers.{Answer, given, refused, refuse◌at◌when◌otherwise◌, ◌giving◌}
 use Rattle.meaning.specs.RuleFile.{Move, no_move, to}
 use Rattle.meaning.specs.FullReading.{Table, Turn, look, Went, go_on, feed_by}
 
@@ -38,13 +39,11 @@ module _ {A B : Type 0} {P : A → B → Type 0} where
 
   pub if-each : (t : Bool) {x x' : Answer A} {y y' : Answer B} → (t ≡ true → Follows P x y) → (t ≡ false → Follows P x' y')
       → Follows P (if t then x else x') (if t then y else y')
-  unfolding if◌then◌else◌
   if-each true holds fails = holds refl
   if-each false holds fails = fails refl
 
   pub if-second : (t : Bool) {x : Answer A} {y y' : Answer B} → (t ≡ true → Follows P x y) → (t ≡ false → Follows P x y')
       → Follows P x (if t then y else y')
-  unfolding if◌then◌else◌
   if-second true holds fails = holds refl
   if-second false holds fails = fails refl
 

@@ -1,6 +1,7 @@
 -- Where bytes follow the fourth record: the rule check refuses by 5, and by nothing else it refuses so. The four records then
 -- pass, their file ends where those bytes begin, and that file by itself is accepted. So the front of every input says of its
 -- record of events what the whole input says.
+use Rattle.std.proofs.Common.{if◌then◌else◌}
 use mathlib.Core.Path.{◌≡◌, refl, sym, ap, ◌∙◌}
 use mathlib.Core.Bool.{Bool, true, false}
 use mathlib.Core.List.{List, [], ◌∷◌, ◌++◌}
@@ -11,7 +12,7 @@ use native.Mathlib.Omega.{arith}
 use lib.ListN.{length, take, length-append}
 use lib.Seq.{take_all, take-append_seam}
 use borrow.Author.Tests.{le-ltb, ltb-true, ltb-false, eqb-true, eqb-false, ne_eqb}
-use Rattle.meaning.specs.Answers.{Answer, given, refused, refuse◌at◌when◌otherwise◌, ◌and_then◌, ◌giving◌, ◌=?◌, if◌then◌else◌}
+use Rattle.meaning.specs.Answers.{Answer, given, refused, refuse◌at◌when◌otherwise◌, ◌and_then◌, ◌giving◌, ◌=?◌}
 use Rattle.meaning.specs.RuleFile.{Rule, is_move, is_class, rule_of, check_rule, record_check, numbers_check, table_check, letter_record, tree_record, class_record, file_length, header_length, numbers_length}
 use Rattle.meaning.specs.CheckProgram.{EventsAt, front_length, events_header, events_place, front_check}
 use Rattle.meaning.proofs.laws.Answered.{refuse-passes, refuse-given, and_then-passes, giving-passes, giving-stops, giving-given, if-true, if-false}
@@ -154,7 +155,7 @@ module _ (input : List ℕ) (place : ℕ) (e : check_rule input ≡ refused 5 pl
 pub fifth-starts : (input : List ℕ) {place : ℕ} → check_rule input ≡ refused 5 place
     → front_check input ≡ (events_header input place giving λ size. given (record { place = place; size = size }))
 unfolding front_check events_place
-fifth-starts input e = rw e (giving-passes _ (if-true _ _ refl))
+fifth-starts input {place} e = rw e (giving-passes _ (if-true (given place) (refused 5 place) refl))
 
 pub other-refused : (input : List ℕ) {number place : ℕ} → check_rule input ≡ refused number place → (number ≡ 5 → ⊥)
     → front_check input ≡ refused number place

@@ -4,7 +4,7 @@ use mathlib.Core.Path.{◌≡◌, refl}
 use mathlib.Core.List.{List, [], ◌∷◌, ◌++◌}
 use Prim.Native.Nat.{ℕ}
 use lib.Count.{ones, ones_in}
-use Rattle.meaning.specs.Answers.{if◌then◌else◌, refuse◌at◌when◌otherwise◌, ◌and_then◌, ◌giving◌}
+use Rattle.meaning.specs.Answers.{refuse◌at◌when◌otherwise◌, ◌and_then◌, ◌giving◌}
 use Rattle.meaning.specs.RuleFile.{bytes2, bytes4, number2, number4, part, as_move, letter_move, tree_move, tree_start_move, class_of, is_states, is_letters, is_state, is_move, is_class, letter_record, tree_record, class_record, file_length, rule_of, numbers_check, table_check, record_check, check_rule}
 use Rattle.meaning.specs.FullReading.{event_of, fresh_reading, looked, no_move_number, look, new_level, full_turn, known_event, full_event, blank, go_on, feed_by}
 use Rattle.meaning.specs.SkipBook.{Still, none_or, Hold, any_below, all_below, listed, marked, goes_to, one_move, round, rounds, start_marks, end_round, ends_in, end_marks, only_state, reached_in, adds, reach_marks, still_marks, hold_marks, word_of, bit, book_of, in_still, in_hold, book_check}
@@ -29,5 +29,5 @@ example_output =
     ∷ 0x20 ∷ 0x32 ∷ 0x20 ∷ 0x36 ∷ 0x20 ∷ 0x36 ∷ 0x0A ∷ []
 
 pub example-printed : printed example_input ≡ example_output
-unfolding ones ones_in if◌then◌else◌ refuse◌at◌when◌otherwise◌ ◌and_then◌ ◌giving◌ bytes2 bytes4 number2 number4 part as_move letter_move tree_move tree_start_move class_of is_states is_letters is_state is_move is_class letter_record tree_record class_record file_length rule_of numbers_check table_check record_check check_rule event_of fresh_reading looked no_move_number look new_level full_turn known_event full_event blank go_on feed_by Still none_or Hold any_below all_below listed marked goes_to one_move round rounds start_marks end_round ends_in end_marks only_state reached_in adds reach_marks still_marks hold_marks word_of bit book_of in_still in_hold book_check held settled passed ends_level settled_turn skip_turn skip_event top_of stored_after store_step not_reading reading_check fed_from feed_call open_place end_of finish_call finish_fed events_in events_header events_body events_place front_check input_check line_from program_fed line_with skip_line full_line digits_in decimal spaced skip_word full_word class_word line_end line_bytes printed_for printed rule_a example_input example_output
+unfolding ones ones_in refuse◌at◌when◌otherwise◌ ◌and_then◌ ◌giving◌ bytes2 bytes4 number2 number4 part as_move letter_move tree_move tree_start_move class_of is_states is_letters is_state is_move is_class letter_record tree_record class_record file_length rule_of numbers_check table_check record_check check_rule event_of fresh_reading looked no_move_number look new_level full_turn known_event full_event blank go_on feed_by Still none_or Hold any_below all_below listed marked goes_to one_move round rounds start_marks end_round ends_in end_marks only_state reached_in adds reach_marks still_marks hold_marks word_of bit book_of in_still in_hold book_check held settled passed ends_level settled_turn skip_turn skip_event top_of stored_after store_step not_reading reading_check fed_from feed_call open_place end_of finish_call finish_fed events_in events_header events_body events_place front_check input_check line_from program_fed line_with skip_line full_line digits_in decimal spaced skip_word full_word class_word line_end line_bytes printed_for printed rule_a example_input example_output
 example-printed = refl

@@ -1,6 +1,7 @@
 -- Laws of Reach, of still and hold, and of the moves of a rule: where a move leads is a state of the rule, Reach is the least
 -- set that holds its start and is closed under moves, and what is still or held stays so along Reach. Everything above goes
 -- by these laws and not by the text of Reach or of the lower states that count.
+use Rattle.std.proofs.Common.{if◌then◌else◌}
 use mathlib.Core.Path.{◌≡◌, refl}
 use mathlib.Core.Bool.{Bool, true, false}
 use mathlib.Core.List.{List, [], ◌∷◌}
@@ -8,7 +9,7 @@ use Prim.Native.Nat.{ℕ, zero, suc, ◌<◌}
 use native.Mathlib.Omega.{arith}
 use lib.ListN.{length, get_or}
 use borrow.Author.Tests.{eqb-true, ltb-true}
-use Rattle.meaning.specs.Answers.{◌<?◌, ◌=?◌, if◌then◌else◌}
+use Rattle.meaning.specs.Answers.{◌<?◌, ◌=?◌}
 use Rattle.meaning.specs.RuleFile.{Rule, IsRule, is_move, is_state, none, no_move, to, as_move}
 use Rattle.meaning.specs.RuleFile.{letter_move, tree_move, tree_start_move}
 use Rattle.meaning.specs.SkipBook.{CanEndTree, start_ends, letter_ends, tree_ends, Reach, itself, by_letter, by_tree, Still, Hold, none_or, in_still, in_hold, IsBook}
@@ -18,7 +19,7 @@ use Rattle.meaning.proofs.laws.Truths.{or-true-first, true-is-not-false}
 
 -- a number that is there as a move is not none, and is where the move leads
 as-move : (x : ℕ) {q : ℕ} → as_move x ≡ to q → ((x =? none) ≡ false) × (x ≡ q)
-unfolding as_move if◌then◌else◌
+unfolding as_move
 as-move x {q} e = go (x =? none) e
   where
     go : (b : Bool) → (if b then no_move else (to x)) ≡ to q → (b ≡ false) × (x ≡ q)

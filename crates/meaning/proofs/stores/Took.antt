@@ -1,6 +1,7 @@
 -- Feeding answers how many events it took: as many as the events taken have grown by. These are the first ones: feeding them alone
 -- leads to the same place, and the event after them, if there is one, is the one that was refused, at its place. Each taken event
 -- counts one and a refused one none, which is a law of any step that counts; the rest is read off the calls.
+use Rattle.std.proofs.Common.{if◌then◌else◌}
 use mathlib.Core.Path.{◌≡◌, refl, sym, ap, ◌∙◌}
 use mathlib.Core.Bool.{Bool, true, false}
 use mathlib.Core.List.{List, [], ◌∷◌}
@@ -9,10 +10,10 @@ use native.Mathlib.Omega.{arith}
 use lib.ListN.{length, get_or, take}
 use Rattle.meaning.specs.declared.Reading.{Reading}
 use Rattle.meaning.specs.declared.Level.{Level}
-use Rattle.meaning.specs.Answers.{Answer, given, refused, refuse◌at◌when◌otherwise◌, ◌giving◌, if◌then◌else◌}
+use Rattle.meaning.specs.Answers.{Answer, given, refused, refuse◌at◌when◌otherwise◌, ◌giving◌, ◌<?◌}
 use Rattle.meaning.specs.RuleFile.{Rule, Move, no_move, to}
-use Rattle.meaning.specs.FullReading.{Event, opens, closes, letter, event_of, looked, Table, look, Turn, full_turn, known_event, Went, go_on, feed_by}
-use Rattle.meaning.specs.Skipping.{passed, ends_level, settled_turn, skip_turn, skip_event}
+use Rattle.meaning.specs.FullReading.{Event, opens, closes, letter, event_of, looked, Table, look, Turn, stays, ends, full_turn, known_event, Went, go_on, feed_by}
+use Rattle.meaning.specs.Skipping.{held, passed, ends_level, settled_turn, skip_turn, skip_event}
 use Rattle.meaning.specs.Calls.{events_taken, TookFirst, Stored, stored_after, store_step, reading_check, feed_call}
 use Rattle.meaning.proofs.laws.FeedLaws.{feed-taken}
 use Rattle.meaning.proofs.stores.ReadingCheck.{feed-checked, feed-unchecked}
@@ -113,7 +114,6 @@ module _ {A : Type 0} {place : ℕ} where
   refuse-here number false n = n
 
   if_here : (b : Bool) {x y : Answer A} → NotElsewhere place x → NotElsewhere place y → NotElsewhere place (if b then x else y)
-  unfolding if◌then◌else◌
   if_here true n m = n
   if_here false n m = m
 
@@ -138,7 +138,9 @@ module _ (R : Rule) (book : List ℕ) (room ceiling : ℕ) (r : Reading) (top : 
   unfolding settled_turn ends_level
   settled_here (letter a) = was_given
   settled_here opens = was_given
-  settled_here closes = if_here _ was_given (if_here _ was_given (full-here closes))
+  settled_here closes =
+      if_here (0 <? r.skip) (was_given {a = stays (passed r r.state r.depth (r.skip - 1))})
+      (if_here (held book r top) (was_given {a = ends (passed r top.above (r.depth - 1) r.skip)}) (full-here closes))
 
   event-here : (e : ℕ) → NotElsewhere r.taken (skip_event R book room ceiling r top e)
   unfolding skip_event known_event skip_turn

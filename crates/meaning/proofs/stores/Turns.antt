@@ -1,5 +1,6 @@
 -- What an event that is taken does, with any book: it is passed over on a settled level, it ends a held level without a
 -- look, or it is one of the three looks. Read off the definition's own text, one law for each of its words.
+use Rattle.std.proofs.Common.{if◌then◌else◌}
 use mathlib.Core.Path.{◌≡◌, refl, subst}
 use mathlib.Core.Bool.{Bool, true, false}
 use mathlib.Core.List.{List}
@@ -8,7 +9,7 @@ use native.Mathlib.Omega.{arith}
 use borrow.Author.Tests.{ltb-false, leb-false, eqb-false}
 use Rattle.meaning.specs.declared.Reading.{Reading}
 use Rattle.meaning.specs.declared.Level.{Level}
-use Rattle.meaning.specs.Answers.{Answer, given, refused, refuse◌at◌when◌otherwise◌, ◌<?◌, ◌≤?◌, ◌=?◌, if◌then◌else◌}
+use Rattle.meaning.specs.Answers.{Answer, given, refused, refuse◌at◌when◌otherwise◌, ◌<?◌, ◌≤?◌, ◌=?◌}
 use Rattle.meaning.specs.RuleFile.{Rule, Move, no_move, to, letter_move, tree_move, tree_start_move}
 use Rattle.meaning.specs.FullReading.{Event, opens, closes, letter, event_of, looked, new_level, Table, look, Turn, stays, stores, ends, full_turn, known_event, most_events}
 use Rattle.meaning.specs.SkipBook.{in_still}
@@ -38,7 +39,6 @@ module _ {A : Type 0} {P : A → Type 0} where
   gives-refuse number place false rest h = h refl
 
   pub gives-if : (b : Bool) (x y : Answer A) → (b ≡ true → Gives P x) → (b ≡ false → Gives P y) → Gives P (if b then x else y)
-  unfolding if◌then◌else◌
   gives-if true x y h k = h refl
   gives-if false x y h k = k refl
 
