@@ -4,7 +4,7 @@ use mathlib.Core.List.{List, [], ◌∷◌, ◌++◌, append_assoc, append-nil}
 use Prim.Native.Nat.{ℕ, zero, suc, ◌+◌, ◌≤◌, ◌<◌}
 use native.Mathlib.Numerals.{add-one}
 use native.Mathlib.Omega.{arith}
-use lib.ListN.{length, get_or, take, set, length-append, length-take, length-set}
+use lib.ListN.{length, get_or, take, set, length-append, length-set}
 use lib.Seq.{take_all, take_at, take-suc, take-suc-set, take-length, length-take-le}
 use Rattle.program.specs.declared.text.Text.{Text}
 use Rattle.program.specs.Texts.{text_room, text_says, InRoom, laid, Lays}

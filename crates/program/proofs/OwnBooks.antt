@@ -1,5 +1,5 @@
 -- The program's books have 65 words, of which the rule's own are the first n+1: both readings with them are those of the definitions.
-use mathlib.Core.Path.{◌≡◌, refl, sym, ap, ◌∙◌}
+use mathlib.Core.Path.{◌≡◌, ap, ◌∙◌}
 use mathlib.Core.List.{List, ◌++◌}
 use Prim.Native.Nat.{ℕ, ◌+◌, ◌≤◌}
 use native.Mathlib.Omega.{arith}
@@ -11,7 +11,7 @@ use Rattle.meaning.specs.SkipBook.{book_of, still_marks, word_of}
 use Rattle.meaning.specs.Skipping.{SameSets}
 use Rattle.meaning.specs.FullReading.{Went, fresh_reading, blank}
 use Rattle.meaning.specs.Calls.{Stored, open_call, finish_fed, largest_ceiling}
-use Rattle.meaning.specs.CheckProgram.{Input, line_from, line_with, program_fed, program_levels, skip_line, full_line}
+use Rattle.meaning.specs.CheckProgram.{line_from, line_with, program_fed, program_levels, skip_line, full_line}
 use Rattle.meaning.proofs.rulefile.Accepted.{accepted-is-rule}
 use Rattle.meaning.proofs.skipbook.Rounds.{most-states}
 use Rattle.meaning.proofs.skipbook.BookMade.{book-length, after-given}

@@ -1,21 +1,20 @@
 -- What is printed for an input, by what was read of it: the refusal of its front, bytes after the record, a record cut short, or
 -- both lines.
-use mathlib.Core.Path.{◌≡◌, refl, sym, ap, ◌∙◌}
-use mathlib.Core.Bool.{true, false}
-use mathlib.Core.List.{List, [], ◌++◌, append-nil}
+use mathlib.Core.Path.{◌≡◌, sym, ap, ◌∙◌}
+use mathlib.Core.List.{List, [], append-nil}
 use Prim.Native.Nat.{ℕ, ◌+◌, ◌≤◌, ◌<◌}
 use native.Mathlib.Omega.{arith}
-use lib.ListN.{length, take, drop, length-append, length-drop}
+use lib.ListN.{length, take, length-append, length-drop}
 use lib.Seq.{take-length}
 use borrow.Author.Tests.{lt-ltb, le-ltb}
-use Rattle.meaning.specs.Answers.{Answer, given, refused, ◌giving◌}
+use Rattle.meaning.specs.Answers.{given, refused}
 use Rattle.meaning.specs.RuleFile.{header_length, part, rule_of, check_rule}
-use Rattle.meaning.specs.CheckProgram.{Input, front_length, front_check, events_in, events_body, input_check, program_fed, line_bytes, rule_word, printed_for, printed}
+use Rattle.meaning.specs.CheckProgram.{front_length, front_check, events_in, events_body, input_check, program_fed, line_bytes, rule_word, printed_for, printed}
 use Rattle.meaning.proofs.laws.Answered.{refuse-passes, refuse-stops, giving-passes, giving-stops}
 use Rattle.meaning.proofs.rulefile.Accepted.{accepted-rule}
 use Rattle.meaning.proofs.program.Fifth.{front-join, found, fifth-file, header-says}
 use Rattle.program.specs.declared.body.Body.{Body}
-use Rattle.program.specs.Bodies.{zero_book, program_book, both_lines, HasRead}
+use Rattle.program.specs.Bodies.{zero_book, both_lines, HasRead}
 use Rattle.program.proofs.OwnBooks.{skip-alike, full-alike}
 
 -- the line of a refusal

@@ -1,6 +1,5 @@
 -- A line is short: the room of a text is more than two of them take.
-use mathlib.Core.Path.{◌≡◌}
-use mathlib.Core.List.{List, ◌++◌}
+use mathlib.Core.List.{List}
 use Prim.Native.Nat.{ℕ, zero, suc, ◌+◌, ◌≤◌}
 use native.Mathlib.Omega.{arith}
 use lib.ListN.{length, length-append}

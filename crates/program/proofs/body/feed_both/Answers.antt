@@ -1,6 +1,5 @@
 -- The events decoded are those of the block, and both readings take them.
-use Rattle.std.proofs.Common.{◌≡◌, ◌≤◌, List, ℕ, length, take, replicate, refl, ◌∙◌, ap}
-use Rattle.meaning.specs.CheckProgram.{events_in}
+use Rattle.std.proofs.Common.{take, replicate, refl, ◌∙◌, ap}
 use Rattle.program.specs.Passes.{pass_says, fed_on}
 use Rattle.program.specs.Bodies.{zero_book}
 use Rattle.program.proofs.Blocks.{decoded-front}

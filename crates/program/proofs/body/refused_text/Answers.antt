@@ -1,9 +1,8 @@
 -- The line of a refusal, and where the front is refused, all that is printed.
-use Rattle.std.proofs.Common.{◌≡◌, ◌∙◌, arith}
+use Rattle.std.proofs.Common.{◌∙◌, arith}
 use Rattle.meaning.specs.Answers.{refused}
 use Rattle.meaning.specs.Calls.{refusal_says}
 use Rattle.meaning.specs.CheckProgram.{rule_word, line_bytes}
-use Rattle.program.specs.Texts.{text_says}
 use Rattle.program.proofs.Laying.{lays-then, lays-whole}
 use Rattle.program.proofs.Rooms.{line-few}
 use Rattle.program.proofs.Prints.{front-refused}
