@@ -20,7 +20,7 @@ use Rattle.meaning.proofs.program.Fifth.{found, fifth-file, header-says, front-j
 use Rattle.program.specs.declared.body.Body.{Body}
 use Rattle.program.specs.Bodies.{block_length, program_book, Took, HasRead}
 use Rattle.rule_check.specs.declared.blocks.Going.{Going}
-use Rattle.rule_check.specs.BlockRead.{TookMore, OneBlock, left}
+use Rattle.rule_check.specs.BlockRead.{TookMore, left}
 
 -- ---- one block
 

@@ -1,7 +1,6 @@
-use Rattle.std.proofs.Common.{◌≡◌, ◌<◌, ◌≤◌, ℕ, List, [], length, take, sym, ◌∙◌, arith, length-take-le}
-use Rattle.std.specs.Io.KnownBytes.{IsAtEnd, Consumes}
-use Rattle.meaning.specs.Calls.{refusal_says}
-use Rattle.meaning.specs.CheckProgram.{front_check, front_length, printed}
+use Rattle.std.proofs.Common.{◌≡◌, ◌<◌, ℕ, List, length, take, sym, ◌∙◌, arith, length-take-le}
+use Rattle.std.specs.Io.KnownBytes.{IsAtEnd}
+use Rattle.meaning.specs.CheckProgram.{front_length, printed}
 use Rattle.meaning.proofs.program.Fifth.{front-join}
 use Rattle.input.specs.Says.{front_says}
 use Rattle.program.specs.Texts.{text_says}

@@ -1,4 +1,4 @@
-use Rattle.std.proofs.Common.{arith, ◌∙◌, ◌≡◌, ◌≤◌, true, false, refl, length, take, length-take-le}
+use Rattle.std.proofs.Common.{arith, ◌∙◌, ◌≤◌, refl, length, length-take-le}
 use borrow.Author.Tests.{eqb-true, eqb-false}
 use Rattle.program.proofs.Blocks.{not-both}
 use Rattle.rule_check.proofs.Glue.{went-block, short-block}

@@ -1,4 +1,4 @@
-use Rattle.std.proofs.Common.{arith, ◌∙◌}
+use Rattle.std.proofs.Common.{◌∙◌}
 use Rattle.rule_check.proofs.Glue.{went_on, fewer-left}
 use Rattle.rule_check.proofs.blocks.read_body.Goals as goal
 

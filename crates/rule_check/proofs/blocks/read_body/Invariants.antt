@@ -1,5 +1,5 @@
 -- The blocks so far are taken, and the bytes of the record that are left grow fewer.
-use Rattle.std.proofs.Common.{◌≡◌, List, ℕ, length, true, ◌<◌, ◌≤◌}
+use Rattle.std.proofs.Common.{◌≡◌, List, ℕ, length}
 use Rattle.std.specs.declared.option.Option.{Option}
 use Rattle.program.specs.declared.body.Body.{Body}
 use Rattle.rule_check.specs.BlockRead.{TookMore, OneBlock, left}

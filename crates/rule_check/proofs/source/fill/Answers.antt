@@ -1,4 +1,4 @@
-use Rattle.std.proofs.Common.{arith, ◌∙◌, take, ◌≡◌}
+use Rattle.std.proofs.Common.{arith, ◌∙◌}
 use Rattle.rule_check.proofs.Transfer.{stays-before, read-more}
 use Rattle.rule_check.proofs.source.fill.Goals as goal
 
