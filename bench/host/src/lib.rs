@@ -1,4 +1,4 @@
-//! The proved calls, linked from `target/staticlib/libhost.a`, as safe functions.
+//! The proved calls, linked from `crates/host/out/libhost.a`, as safe functions.
 //!
 //! Each call lays its answer into a lent slice of numbers: the number of the
 //! refusal or 0, its place or 0, and then the values that were given. It returns

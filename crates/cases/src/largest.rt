@@ -3,7 +3,8 @@
 // the next state, with the state itself as lower state: so does the set of the tree start, and the last move waits for all of it.
 use crate::lines;
 use meaning::Opened;
-use rule::{Rule, Written, writer};
+use rule::{Rule, writer};
+use std::io;
 
 const LETTER_MOVES: usize = 16384;
 
@@ -39,41 +40,39 @@ fn next_states(moves: &mut [u8], of_letters: bool) {
     }
 }
 
-fn book_of(name: &[u8], file: &[u8]) {
+fn book_of(rt: &impl Print, name: &str, file: &[u8]) -> io::Result<()> {
     let mut book = [0u64; 65];
     let answer = reading::open(file, &mut book);
-    lines::text(name);
     match answer {
         Opened::Ready(opening) => {
-            lines::number(opening.still as u64);
-            lines::number(book[0]);
-            lines::number(book[1]);
-            lines::number(book[64]);
+            println!(rt;
+                "{name} {} {} {} {}",
+                opening.still, book[0], book[1], book[64]
+            )
         }
-        Opened::Refused(r) => lines::number(r.number as u64),
+        Opened::Refused(r) => println!(rt; "{name} {}", r.number),
     }
-    lines::text(b"\n");
 }
 
-pub fn letters() {
+pub fn letters(rt: &impl Print) -> io::Result<()> {
     let mut moves = [0u8; LETTER_MOVES];
     next_states(&mut moves, true);
     let trees = [255u8; TREE_MOVES];
     let classes = [2u8; STATES];
     let mut file = [0u8; LONGEST];
     let answer = writer::write(64, 0, 255, 256, &moves, &trees, &classes, &mut file);
-    lines::written(b"the largest rule", answer);
-    lines::checked(b"the largest rule read back", Rule::of_file(&file));
-    book_of(b"the largest rule's book", &file);
+    lines::written(rt, "the largest rule", answer)?;
+    lines::checked(rt, "the largest rule read back", Rule::of_file(&file))?;
+    book_of(rt, "the largest rule's book", &file)
 }
 
-pub fn trees() {
+pub fn trees(rt: &impl Print) -> io::Result<()> {
     let moves = [255u8; LETTER_MOVES];
     let mut trees = [0u8; TREE_MOVES];
     next_states(&mut trees, false);
     let classes = [2u8; STATES];
     let mut file = [0u8; LONGEST];
     let answer = writer::write(64, 0, 0, 256, &moves, &trees, &classes, &mut file);
-    lines::written(b"the longest chain of trees", answer);
-    book_of(b"the longest chain's book", &file);
+    lines::written(rt, "the longest chain of trees", answer)?;
+    book_of(rt, "the longest chain's book", &file)
 }

@@ -1,106 +1,58 @@
 // A line for each case: its name, and what the call answered.
-use libc::STDOUT_FILENO;
 use meaning::{End, Fed, Feeding, Opened, Refusal, Verdict};
 use rule::{Checked, Written};
+use std::io;
 
-pub fn text(bytes: &[u8]) {
-    io::write_all(STDOUT_FILENO, bytes);
+fn refused(rt: &impl Print, name: &str, r: Refusal) -> io::Result<()> {
+    println!(rt; "{name} refused {} {}", r.number, r.place)
 }
 
-// A space, and a number.
-pub fn number(n: u64) {
-    text(b" ");
-    io::print_decimal(STDOUT_FILENO, n);
-}
-
-fn refused(r: Refusal) {
-    text(b" refused");
-    number(r.number as u64);
-    number(r.place as u64);
-    text(b"\n");
-}
-
-fn class(v: Verdict) {
+fn class(v: Verdict) -> &'static str {
     match v {
-        Verdict::OffSchema => text(b" off-schema"),
-        Verdict::Reject => text(b" reject"),
-        Verdict::Accept => text(b" accept"),
+        Verdict::OffSchema => "off-schema",
+        Verdict::Reject => "reject",
+        Verdict::Accept => "accept",
     }
 }
 
-pub fn end(name: &[u8], e: End, looks: u32) {
-    text(name);
+pub fn end(rt: &impl Print, name: &str, e: End, looks: u32) -> io::Result<()> {
     match e {
-        End::Judged(j) => {
-            let verdict = j.verdict;
-            class(verdict);
-            number(j.state as u64);
-            number(looks as u64);
-            text(b"\n");
-        }
-        End::Refused(r) => refused(r),
+        End::Judged(j) => println!(rt; "{name} {} {} {looks}", class(j.verdict), j.state),
+        End::Refused(r) => refused(rt, name, r),
     }
 }
 
-pub fn fed(name: &[u8], f: Fed) {
-    text(name);
-    let ended = f.ended;
-    match ended {
-        Feeding::AllTaken => {
-            text(b" taken");
-            number(f.taken as u64);
-            text(b"\n");
-        }
-        Feeding::Refused(r) => refused(r),
+pub fn fed(rt: &impl Print, name: &str, f: Fed) -> io::Result<()> {
+    match f.ended {
+        Feeding::AllTaken => println!(rt; "{name} taken {}", f.taken),
+        Feeding::Refused(r) => refused(rt, name, r),
     }
 }
 
-pub fn checked(name: &[u8], c: Checked) {
-    text(name);
+pub fn checked(rt: &impl Print, name: &str, c: Checked) -> io::Result<()> {
     match c {
-        Checked::Fine(rule) => {
-            text(b" fine");
-            number(rule.states as u64);
-            number(rule.letters as u64);
-            text(b"\n");
-        }
-        Checked::Refused(r) => refused(r),
+        Checked::Fine(rule) => println!(rt; "{name} fine {} {}", rule.states, rule.letters),
+        Checked::Refused(r) => refused(rt, name, r),
     }
 }
 
-pub fn written(name: &[u8], w: Written) {
-    text(name);
+pub fn written(rt: &impl Print, name: &str, w: Written) -> io::Result<()> {
     match w {
-        Written::Bytes(count) => {
-            text(b" bytes");
-            number(count as u64);
-            text(b"\n");
-        }
-        Written::Refused(r) => refused(r),
+        Written::Bytes(count) => println!(rt; "{name} bytes {count}"),
+        Written::Refused(r) => refused(rt, name, r),
     }
 }
 
 // What opening answered, and the words of the book after it.
-pub fn opened(name: &[u8], o: Opened, book: &[u64; 4]) {
-    text(name);
+pub fn opened(rt: &impl Print, name: &str, o: Opened, book: [u64; 4]) -> io::Result<()> {
     match o {
         Opened::Ready(opening) => {
-            let first = opening.reading;
-            text(b" state");
-            number(first.state as u64);
-            text(b" still");
-            number(opening.still as u64);
+            print!(rt;
+                "{name} state {} still {}",
+                opening.reading.state, opening.still
+            )?;
         }
-        Opened::Refused(r) => {
-            text(b" refused");
-            number(r.number as u64);
-            number(r.place as u64);
-        }
+        Opened::Refused(r) => print!(rt; "{name} refused {} {}", r.number, r.place)?,
     }
-    text(b" book");
-    number(book[0]);
-    number(book[1]);
-    number(book[2]);
-    number(book[3]);
-    text(b"\n");
+    println!(rt; " book {} {} {} {}", book[0], book[1], book[2], book[3])
 }

@@ -12,16 +12,18 @@ mod readings;
 mod rules;
 mod stores;
 
-fn main() {
-    files::rule_checks();
-    files::writings();
-    files::openings();
-    files::unopened();
-    largest::letters();
-    largest::trees();
-    ends::cases();
-    documents::cases();
-    documents::full_case();
-    missing::moves();
-    readings::refusals();
+use std::io;
+
+fn main(rt: HostRuntime) -> io::Result<()> {
+    files::rule_checks(&rt)?;
+    files::writings(&rt)?;
+    files::openings(&rt)?;
+    files::unopened(&rt)?;
+    largest::letters(&rt)?;
+    largest::trees(&rt)?;
+    ends::cases(&rt)?;
+    documents::cases(&rt)?;
+    documents::full_case(&rt)?;
+    missing::moves(&rt)?;
+    readings::refusals(&rt)
 }

@@ -3,6 +3,7 @@ use crate::documents::{MOST, book_a};
 use crate::rules::rule_a;
 use crate::{lines, stores};
 use meaning::{Level, Reading};
+use std::io;
 
 fn reading_at(state: u8, depth: u32, skip: u32, taken: u32, looks: u32) -> Reading {
     Reading {
@@ -15,30 +16,36 @@ fn reading_at(state: u8, depth: u32, skip: u32, taken: u32, looks: u32) -> Readi
 }
 
 // One event fed to a reading over levels with a state above them, by some book.
-fn feed_with(name: &[u8], reading: Reading, above: u8, book: &[u64]) {
+fn feed_with(
+    rt: &impl Print,
+    name: &str,
+    reading: Reading,
+    above: u8,
+    book: &[u64],
+) -> io::Result<()> {
     let file = rule_a();
     let levels = [Level { above, opened: 0 }; 1024];
     let outcome = stores::over_many(&file, book, MOST, reading, levels, &[2]);
-    lines::fed(name, outcome.fed);
+    lines::fed(rt, name, outcome.fed)
 }
 
 // The same by rule A's own book.
-fn feed_one(name: &[u8], reading: Reading, above: u8) {
+fn feed_one(rt: &impl Print, name: &str, reading: Reading, above: u8) -> io::Result<()> {
     let book = book_a();
-    feed_with(name, reading, above, &book);
+    feed_with(rt, name, reading, above, &book)
 }
 
 // The same over two levels.
-fn feed_over_two(name: &[u8], reading: Reading) {
+fn feed_over_two(rt: &impl Print, name: &str, reading: Reading) -> io::Result<()> {
     let file = rule_a();
     let book = book_a();
     let levels = [stores::blank(); 2];
     let outcome = stores::over_two(&file, &book, MOST, reading, levels, &[2]);
-    lines::fed(name, outcome.fed);
+    lines::fed(rt, name, outcome.fed)
 }
 
 // The end of a reading whose second level was opened at another place than the rest.
-fn finish_at(name: &[u8], reading: Reading, opened: u32) {
+fn finish_at(rt: &impl Print, name: &str, reading: Reading, opened: u32) -> io::Result<()> {
     let file = rule_a();
     let book = book_a();
     let mut levels = [Level {
@@ -47,41 +54,50 @@ fn finish_at(name: &[u8], reading: Reading, opened: u32) {
     }; 1024];
     levels[1] = Level { above: 0, opened };
     lines::end(
+        rt,
         name,
         reading::finish_array(&file, &book, reading, levels),
         reading.looks,
-    );
+    )
 }
 
-pub fn refusals() {
-    feed_one(b"a fresh reading", reading_at(0, 0, 0, 0, 0), 0);
+pub fn refusals(rt: &impl Print) -> io::Result<()> {
+    feed_one(rt, "a fresh reading", reading_at(0, 0, 0, 0, 0), 0)?;
     feed_with(
-        b"a book too short to read with",
+        rt,
+        "a book too short to read with",
         reading_at(0, 0, 0, 0, 0),
         0,
         &[0, 0, 0],
-    );
-    feed_one(b"a state of n", reading_at(3, 0, 0, 0, 0), 0);
-    feed_over_two(b"three levels in a store of two", reading_at(0, 3, 0, 3, 3));
-    feed_one(b"a stored state of n", reading_at(0, 1, 0, 1, 1), 3);
+    )?;
+    feed_one(rt, "a state of n", reading_at(3, 0, 0, 0, 0), 0)?;
+    feed_over_two(
+        rt,
+        "three levels in a store of two",
+        reading_at(0, 3, 0, 3, 3),
+    )?;
+    feed_one(rt, "a stored state of n", reading_at(0, 1, 0, 1, 1), 3)?;
     feed_one(
-        b"skipping on an unsettled level",
+        rt,
+        "skipping on an unsettled level",
         reading_at(0, 0, 1, 1, 1),
         0,
-    );
-    feed_one(b"more levels than events", reading_at(0, 1, 0, 0, 0), 0);
-    feed_one(b"more looks than events", reading_at(0, 0, 0, 1, 2), 0);
+    )?;
+    feed_one(rt, "more levels than events", reading_at(0, 1, 0, 0, 0), 0)?;
+    feed_one(rt, "more looks than events", reading_at(0, 0, 0, 1, 2), 0)?;
     feed_one(
-        b"the last event but one",
+        rt,
+        "the last event but one",
         reading_at(0, 0, 0, 0xffff_fffe, 0),
         0,
-    );
+    )?;
     feed_one(
-        b"all events taken already",
+        rt,
+        "all events taken already",
         reading_at(0, 0, 0, 0xffff_ffff, 0),
         0,
-    );
-    finish_at(b"the innermost opening", reading_at(0, 2, 0, 20, 20), 11);
-    finish_at(b"a state of n at the end", reading_at(3, 0, 0, 0, 0), 0);
-    finish_at(b"an end", reading_at(2, 0, 0, 3, 3), 0);
+    )?;
+    finish_at(rt, "the innermost opening", reading_at(0, 2, 0, 20, 20), 11)?;
+    finish_at(rt, "a state of n at the end", reading_at(3, 0, 0, 0, 0), 0)?;
+    finish_at(rt, "an end", reading_at(2, 0, 0, 3, 3), 0)
 }

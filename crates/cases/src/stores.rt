@@ -1,5 +1,5 @@
 // A reading fed and then finished over levels held by value: over one level, over two, and over room for any case. The three
-// have one contract; the first two lend their levels, and their proofs are one law over the count.
+// have one contract; the first two lend their levels.
 ghost use Rattle.cases.specs.Stores.{OutcomeIs};
 
 use meaning::{End, Fed, Level, Reading};

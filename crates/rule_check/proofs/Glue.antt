@@ -1,12 +1,17 @@
--- What the reads leave in place, and what the blocks come to: the front and the bytes that were read after it are an input, and
--- what the body took is its body.
+-- What the blocks come to: the front and the bytes that were read after it are an input, and what the body took is its body.
 use mathlib.Core.Path.{◌≡◌, refl, sym, ap, subst, ◌∙◌}
 use mathlib.Core.Bool.{Bool, true, false}
 use mathlib.Core.List.{List, [], ◌++◌, append_assoc, append-nil}
 use Prim.Native.Nat.{ℕ, ◌+◌, ◌%◌, ◌≤◌, ◌<◌}
+use native.Mathlib.Nat.{lt_of_not-le}
+use native.Mathlib.Decide.{dec_le}
 use native.Mathlib.Omega.{arith}
 use lib.ListN.{length, take, drop, length-append, take-append-drop}
 use lib.Seq.{take-take, take-append-le, drop-append-le, length-take-le}
+use Rattle.std.proofs.Common.{None, Some, IfSome}
+use Rattle.std.specs.declared.option.Option.{Option}
+use Rattle.std.specs.Io.KnownBytes.{Consumes, IsAtEnd}
+use Rattle.std.proofs.KnownBytes.{Consumes-trans}
 use Rattle.meaning.specs.Answers.{given}
 use Rattle.meaning.specs.RuleFile.{header_length, rule_of, check_rule}
 use Rattle.meaning.specs.CheckProgram.{EventsAt, front_length, front_check}
@@ -15,11 +20,7 @@ use Rattle.meaning.proofs.program.Fifth.{found, fifth-file, header-says, front-j
 use Rattle.program.specs.declared.body.Body.{Body}
 use Rattle.program.specs.Bodies.{block_length, program_book, Took, HasRead}
 use Rattle.rule_check.specs.declared.blocks.Going.{Going}
-use Rattle.rule_check.specs.BlockRead.{TookMore, OneBlock, left}
-
--- what stays before a place stays before an earlier one
-pub stays-before : (less more : ℕ) (a b : List ℕ) → less ≤ more → take more a ≡ take more b → take less a ≡ take less b
-stays-before less more a b h e = sym (take-take less more a h) ∙ (ap (take less) e ∙ take-take less more b h)
+use Rattle.rule_check.specs.BlockRead.{TookMore, left}
 
 -- ---- one block
 
@@ -30,33 +31,42 @@ filled there count block after h stays =
     ap (λ l. l ++ drop there (take count after)) (sym stays ∙ sym (take-take there count after h))
     ∙ take-append-drop there (take count after)
 
-pub went-block : (file book : List ℕ) (size : ℕ) (before : Body) (there count : ℕ) (block after : List ℕ) (r : Going)
+pub went-block : (file book : List ℕ) (size : ℕ) (before : Body) (there count : ℕ) (block after : List ℕ) (old new : Option (List ℕ)) (r : Going)
     → there ≤ count → count ≤ length after → length after ≡ block_length → take there after ≡ take there block
+    → Consumes old new (drop there (take count after))
     → ((bytes : List ℕ) → Took file book size before bytes → length bytes % 2 ≡ 0 → length (take count after) ≤ block_length
     → Took file book size r.body (bytes ++ take count after))
     → (r.more ≡ true → count ≡ block_length)
-    → TookMore file book size before (take there block) r
-went-block file book size before there count block after r h within room stays took full =
+    → (r.more ≡ false → r.body.after ≡ false → IsAtEnd new)
+    → TookMore file book size before (take there block) old new r
+went-block file book size before there count block after old new r h within room stays gave took full end =
     let all : take there block ++ drop there (take count after) ≡ take count after = filled there count block after h stays in
     let counted : length (take count after) ≡ count = length-take-le count after within in
     record {
       new = drop there (take count after);
+      gave = gave;
       took = λ bytes t even. rw all (took bytes t even (omega arith));
       even = λ e. rw all (omega (arith, full e));
+      at_end = end;
     }
+
+-- a block that is not full has fewer bytes than it takes
+pub short-block : (count most : ℕ) (full : count ≡ block_length → ⊥) → most ≡ block_length → count ≤ most → count < most
+short-block count most full room within = omega arith
 
 -- ---- block after block
 
 even_sum : (a b : ℕ) → a % 2 ≡ 0 → b % 2 ≡ 0 → (a + b) % 2 ≡ 0
 even_sum a b h k = omega arith
 
-pub went_on : (file book : List ℕ) (size : ℕ) (before : Body) (there : List ℕ) (first r : Going) → first.more ≡ true
-    → TookMore file book size before there first → TookMore file book size first.body [] r → TookMore file book size before there r
-went_on file book size before there first r more one two =
+pub went_on : (file book : List ℕ) (size : ℕ) (before : Body) (there : List ℕ) (start old new : Option (List ℕ)) (first r : Going) → first.more ≡ true
+    → TookMore file book size before there start old first → TookMore file book size first.body [] old new r → TookMore file book size before there start new r
+went_on file book size before there start old new first r more one two =
     let both : (there ++ one.new) ++ two.new ≡ there ++ (one.new ++ two.new) = append_assoc there one.new two.new in
     let first_even : length (there ++ one.new) % 2 ≡ 0 = one.even more in
     record {
       new = one.new ++ two.new;
+      gave = Consumes-trans start old new _ _ one.gave two.gave;
       took = λ bytes t even.
           let joined : (bytes ++ (there ++ one.new)) ++ two.new ≡ bytes ++ (there ++ (one.new ++ two.new))
           = append_assoc bytes (there ++ one.new) two.new ∙ ap (λ l. bytes ++ l) both in
@@ -65,6 +75,7 @@ went_on file book size before there first r more one two =
           rw joined at (two.took (bytes ++ (there ++ one.new)) (one.took bytes t even) evenly);
       even = λ e.
           rw (← both) (rw (length-append (there ++ one.new) two.new) (even_sum (length (there ++ one.new)) (length two.new) first_even (two.even e)));
+      at_end = two.at_end;
     }
 
 -- the bytes of the record that are left grow fewer
@@ -75,12 +86,30 @@ fewer-left true size before taken h = let g = h refl in omega arith
 fewer-left false size before taken h = omega arith
 
 -- from the first byte on
-pub took-all : (file book : List ℕ) (size : ℕ) (before : Body) (there part : List ℕ) (r : Going) → there ≡ part
-    → Took file book size before [] → (w : TookMore file book size before there r) → Took file book size r.body (part ++ w.new)
-took-all file book size before there part r e t w =
+pub took-all : (file book : List ℕ) (size : ℕ) (before : Body) (there part : List ℕ) (old new : Option (List ℕ)) (r : Going) → there ≡ part
+    → Took file book size before [] → (w : TookMore file book size before there old new r) → Took file book size r.body (part ++ w.new)
+took-all file book size before there part old new r e t w =
     subst (λ (l : List ℕ). Took file book size r.body (l ++ w.new)) e (w.took [] t refl)
 
+-- ---- all that a reader has
+
+-- what holds of what it gave and what it has left holds of all that it had
+pub of-all : (a b : Option (List ℕ)) (new : List ℕ) (P : List ℕ → Type 0) → Consumes a b new
+    → ((rest : List ℕ) → (IsAtEnd b → rest ≡ []) → P (new ++ rest)) → IfSome a P
+of-all None b new P gave h = tt
+of-all (Some x) None new P gave h = absurd gave
+of-all (Some x) (Some y) new P gave h = subst P (sym gave) (h y (λ e. e))
+
 -- ---- the whole input
+
+-- the front decides what the input's front check says, where nothing follows a front that is short
+pub front-decides : (front rest : List ℕ) → (length front < front_length → rest ≡ [])
+    → front_check (take front_length (front ++ rest)) ≡ front_check front
+front-decides front rest none =
+    elim (dec_le front_length (length front)) [
+      | yes long ↦ ap front_check (take-append-le front_length front rest long) ∙ front-join front
+      | no less ↦ front-join (front ++ rest) ∙ ap front_check (ap (λ l. front ++ l) (none (lt_of_not-le less)) ∙ append-nil front)
+    ]
 
 module _ (front : List ℕ) (place size : ℕ) (there : front_check front ≡ given (record { place = place; size = size })) where
   abbrev start : ℕ
@@ -96,19 +125,31 @@ module _ (front : List ℕ) (place size : ℕ) (there : front_check front ≡ gi
       let a : check_rule (take place front) ≡ given (rule_of front) = fifth-file front place (found front there).after in
       a ∙ ap given (sym (accepted-rule (take place front) a))
 
-  pub has-read : (file book : List ℕ) (body : Body) (new : List ℕ) → file ≡ take place front → book ≡ program_book file
-      → Took file book size body (drop start front ++ new)
-      → HasRead file book size body (front ++ new) (drop start front ++ new) []
-  has-read file book body new file_is book_is took =
+  -- the input is the front, what was read after it, and a rest that was not read
+  pub has-read : (file book : List ℕ) (body : Body) (new rest : List ℕ) → file ≡ take place front → book ≡ program_book file
+      → Took file book size body (drop start front ++ new) → (body.after ≡ false → rest ≡ [])
+      → HasRead file book size body (front ++ (new ++ rest)) (drop start front ++ new) rest
+  has-read file book body new rest file_is book_is took all_read =
       let long : length file ≡ place = ap length file_is ∙ length-take-le place front (omega (arith, start-in)) in
       let at' : EventsAt = record { place = place; size = size } in
+      let more : List ℕ = new ++ rest in
       record {
-        found = front-join (front ++ new) ∙ (front-more front new there ∙ ap (λ n. given (record { place = n; size = size })) (sym long));
-        file_is = file_is ∙ (sym (take-append-le place front new (omega (arith, start-in))) ∙ ap (λ n. take n (front ++ new)) (sym long));
+        found = front-join (front ++ more) ∙ (front-more front more there ∙ ap (λ n. given (record { place = n; size = size })) (sym long));
+        file_is = file_is ∙ (sym (take-append-le place front more (omega (arith, start-in))) ∙ ap (λ n. take n (front ++ more)) (sym long));
         book_is = book_is;
         took = took;
         body_is =
-            ap (λ n. drop (n + header_length) (front ++ new)) long
-            ∙ (drop-append-le start front new start-in ∙ sym (append-nil (drop start front ++ new)));
-        all_read = λ e. refl;
+            ap (λ n. drop (n + header_length) (front ++ more)) long
+            ∙ (drop-append-le start front more start-in ∙ sym (append_assoc (drop start front) new rest));
+        all_read = all_read;
       }
+
+  -- so it is after the last block, whatever the rest is, and that is nothing where the reader is at its end
+  pub run-read : (book : List ℕ) (begun : Body) (laid : List ℕ) (old new : Option (List ℕ)) (last : Going) → laid ≡ drop start front
+      → book ≡ program_book (take place front) → Took (take place front) book size begun [] → (w : TookMore (take place front) book size begun laid old new last)
+      → last.more ≡ false → (rest : List ℕ) → (IsAtEnd new → rest ≡ [])
+      → HasRead (take place front) book size last.body (front ++ (w.new ++ rest)) (drop start front ++ w.new) rest
+  run-read book begun laid old new last laid_is book_is took w ended rest none =
+      has-read (take place front) book last.body w.new rest refl book_is
+      (took-all (take place front) book size begun laid (drop start front) old new last laid_is took w)
+      (λ e. none (w.at_end ended e))

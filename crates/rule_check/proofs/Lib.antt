@@ -1,1 +1,3 @@
+-- What the proofs of the check program share.
+pub mod Transfer
 pub mod Glue

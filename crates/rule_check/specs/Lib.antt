@@ -1,2 +1,3 @@
 -- What the contracts of the check program cite.
 pub mod BlockRead
+pub mod Failing

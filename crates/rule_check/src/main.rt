@@ -3,41 +3,75 @@
 #![tactic(auto)]
 
 mod blocks;
+mod failure;
 mod output;
 mod source;
 
-ghost use Rattle.std.specs.Prelude.{◌≡◌, false, List, ℕ};
+ghost use Rattle.std.specs.Prelude.{◌≡◌, List, ℕ, IfOk, OnOk, OnErr, IfErr, IfSome, IsOkAnd};
+ghost use Rattle.std.specs.Io.KnownBytes.{Consumes, Keeps, Appends};
 ghost use Rattle.meaning.specs.CheckProgram.{printed};
 ghost use Rattle.program.specs.Texts.{text_says, InRoom};
+ghost use Rattle.rule_check.specs.Failing.{LeftBy};
 
-use blocks::Answer;
+use failure::Failure;
 use input::Front;
+use program::text::Text;
+use std::io;
+use std::io::{Read, Write};
+use std::process::ExitCode;
 
 // The longest rule file and the header of the record after it.
 const FRONT: usize = 20579;
 
-// Writes an answer. A read that failed is told on standard error, and then nothing is printed.
-fn tell(answer: Answer)
-    requires fact_1 { InRoom answer.text }
-    requires fact_2 { (answer.failed ≡ false → (input : List ℕ) × (text_says answer.text ≡ printed input)) }
+// Reads an input, as far as it decides the answer, and makes the answer: what is printed for the bytes that were read, and so for
+// all that the reader has, where that is known.
+fn answer<R: Read>(reader: &mut R) -> io::Result<Text>
+    ensures in_room { IfOk result InRoom }
+    ensures as_read { IfOk result (λ text. (input : List ℕ) × Consumes (R.remaining reader.old) (R.remaining reader.new) input × (text_says text ≡ printed input)) }
+    ensures as_all { IfOk result (λ text. IfSome (R.remaining reader.old) (λ input. text_says text ≡ printed input)) }
 {
-    if answer.failed {
-        os::fail(b"standard input");
-        return;
+    let mut front = [0u8; FRONT];
+    let count = source::fill(reader, &mut front, 0)?;
+    match input::events_at(&front[..count]) {
+        Front::Refused(refusal) => Ok(program::body::refused_text(refusal)),
+        Front::Events(at) => blocks::run(reader, &front[..count], at),
     }
-    output::write(answer.text);
 }
 
-fn main() {
-    let mut front = [0u8; FRONT];
-    let got = source::fill(&mut front, 0);
-    if got.failed {
-        os::fail(b"standard input");
-        return;
+// Writes an answer. Where a read failed there is none, and nothing is written.
+fn tell<W: Write>(writer: &mut W, answer: io::Result<Text>) -> Result<(), Failure>
+    requires in_room { IfOk answer InRoom }
+    requires as_printed { IfOk answer (λ text. (input : List ℕ) × (text_says text ≡ printed input)) }
+    ensures told { OnOk result (IsOkAnd answer (λ text. Appends (W.contents writer.old) (W.contents writer.new) (text_says text))) }
+    ensures silent { OnErr answer (Keeps (W.contents writer.old) (W.contents writer.new)) }
+    ensures left { IfErr result (LeftBy (W.contents writer.old) (W.contents writer.new)) }
+{
+    match answer {
+        Err(error) => Err(Failure::Input(error)),
+        Ok(text) => match output::write(writer, text) {
+            Err(error) => Err(Failure::Output(error)),
+            Ok(()) => Ok(()),
+        },
     }
-    let count = got.count;
-    match input::events_at(&front[..count]) {
-        Front::Refused(refusal) => output::write(program::body::refused_text(refusal)),
-        Front::Events(at) => tell(blocks::run(&front[..count], at)),
+}
+
+// The program on any reader and writer: where the bytes that the reader has are known, those that are printed for them are written.
+fn check<R: Read, W: Write>(reader: &mut R, writer: &mut W) -> Result<(), Failure>
+    ensures prints { OnOk result (IfSome (R.remaining reader.old) (λ input. Appends (W.contents writer.old) (W.contents writer.new) (printed input))) }
+    ensures left { IfErr result (LeftBy (W.contents writer.old) (W.contents writer.new)) }
+{
+    tell(writer, answer(reader))
+}
+
+// What failed is told on standard error.
+fn main(rt: HostRuntime) -> ExitCode {
+    let mut reader = rt.stdin();
+    let mut writer = rt.stdout();
+    match check(&mut reader, &mut writer) {
+        Ok(()) => ExitCode::SUCCESS,
+        Err(failure) => {
+            let _ = eprintln!(rt; "{failure}");
+            ExitCode::FAILURE
+        }
     }
 }

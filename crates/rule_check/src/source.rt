@@ -1,90 +1,63 @@
 // Standard input, read into a buffer until that is full.
-ghost use Rattle.std.specs.Prelude.{◌≡◌, ◌+◌, ◌≤◌, length, take};
+ghost use Rattle.std.specs.Prelude.{◌≡◌, ◌≢◌, ◌+◌, ◌<◌, ◌≤◌, length, take, drop, IfOk, OnErr};
+ghost use Rattle.std.specs.Io.KnownBytes.{Keeps, Consumes, IsAtEnd};
 
-use libc::STDIN_FILENO;
+use std::io;
+use std::io::{ErrorKind, Read};
 
 // How often a read that a signal interrupted is made again. A proved loop has to end; no run uses this up.
 const TRIES: u32 = 0xffff_ffff;
 
-// How many bytes one read moved, whether it failed, and whether a signal interrupted it.
-#[derive(Clone, Copy)]
-struct Moved {
-    pub count: usize,
-    pub failed: bool,
-    pub again: bool,
-}
-
-// How many bytes a buffer holds now, and whether a read failed.
-#[derive(Clone, Copy)]
-pub struct Got {
-    pub count: usize,
-    pub failed: bool,
-}
-
 // One read into a buffer from a place on. The bytes before it stay.
-fn read_at(buffer: &mut [u8], at: usize) -> Moved
+fn read_at<R: Read>(reader: &mut R, buffer: &mut [u8], at: usize) -> io::Result<usize>
     requires { at ≤ length buffer.old }
-    ensures count_in_bounds { at + result.count ≤ length buffer.old }
+    ensures count_in_bounds { IfOk result (λ count. at + count ≤ length buffer.old) }
     ensures buffer_unchanged { take at buffer.new ≡ take at buffer.old }
+    ensures read { IfOk result (λ count. Consumes (R.remaining reader.old) (R.remaining reader.new) (take count (drop at buffer.new))) }
+    ensures end { IfOk result (λ count. count ≡ 0 → at < length buffer.old → IsAtEnd (R.remaining reader.new)) }
+    ensures none_lost { OnErr result (Keeps (R.remaining reader.old) (R.remaining reader.new)) }
 {
-    let rest = &mut buffer[at..];
-    let answer = libc::read(STDIN_FILENO, rest);
-    if answer < 0 {
-        return Moved {
-            count: 0,
-            failed: true,
-            again: os::errno() == libc::EINTR,
-        };
-    }
-    Moved {
-        count: io::count(answer, rest),
-        failed: false,
-        again: false,
-    }
+    reader.read(&mut buffer[at..])
 }
 
 // The same, made again as long as a signal interrupts it before a byte is there.
-fn read_some(buffer: &mut [u8], at: usize) -> Moved
+fn read_some<R: Read>(reader: &mut R, buffer: &mut [u8], at: usize) -> io::Result<usize>
     requires { at ≤ length buffer.old }
-    ensures count_in_bounds { at + result.count ≤ length buffer.old }
+    ensures count_in_bounds { IfOk result (λ count. at + count ≤ length buffer.old) }
     ensures buffer_unchanged { take at buffer.new ≡ take at buffer.old }
+    ensures read { IfOk result (λ count. Consumes (R.remaining reader.old) (R.remaining reader.new) (take count (drop at buffer.new))) }
+    ensures end { IfOk result (λ count. count ≡ 0 → at < length buffer.old → IsAtEnd (R.remaining reader.new)) }
+    ensures none_lost { OnErr result (Keeps (R.remaining reader.old) (R.remaining reader.new)) }
 {
-    let mut moved = Moved {
-        count: 0,
-        failed: true,
-        again: true,
-    };
-    let mut tries = TRIES;
-    while tries > 0 && moved.again {
-        moved = read_at(buffer, at);
-        tries -= 1;
+    for _ in 0..TRIES {
+        match read_at(reader, buffer, at) {
+            Ok(count) => return Ok(count),
+            Err(error) => {
+                if error.kind() != ErrorKind::Interrupted {
+                    return Err(error);
+                }
+            }
+        }
     }
-    moved
+    Err(io::Error::from(ErrorKind::Interrupted))
 }
 
-// Reads until the buffer is full from a place on, or the input ends, or a read fails. Short reads are normal. The bytes before
-// the place stay.
-pub fn fill(buffer: &mut [u8], from: usize) -> Got
+// Reads until the buffer is full from a place on, or the input ends, or a read fails, and answers how many bytes the buffer
+// holds now. Short reads are normal. The bytes before the place stay.
+pub fn fill<R: Read>(reader: &mut R, buffer: &mut [u8], from: usize) -> io::Result<usize>
     requires { from ≤ length buffer.old }
-    ensures from_le_count { (from ≤ result.count) × (result.count ≤ length buffer.old) }
+    ensures count_in_bounds { IfOk result (λ count. (from ≤ count) × (count ≤ length buffer.old)) }
     ensures buffer_unchanged { take from buffer.new ≡ take from buffer.old }
+    ensures read { IfOk result (λ count. Consumes (R.remaining reader.old) (R.remaining reader.new) (drop from (take count buffer.new))) }
+    ensures end { IfOk result (λ count. count < length buffer.old → IsAtEnd (R.remaining reader.new)) }
 {
     let mut at = from;
     while at < buffer.len() {
-        let moved = read_some(buffer, at);
-        if moved.failed {
-            return Got {
-                count: at,
-                failed: true,
-            };
-        }
-        if moved.count == 0 {
+        let count = read_some(reader, buffer, at)?;
+        if count == 0 {
             break;
         }
-        at += moved.count;
+        at += count;
     }
-    Got {
-        count: at,
-        failed: false,
-    }
+    Ok(at)
 }
