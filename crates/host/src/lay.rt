@@ -17,7 +17,8 @@ fn copy(numbers: &[u64], answer: &mut [u64])
 pub fn lay(numbers: &[u64], answer: &mut [u64]) -> bool
     ensures { Laid numbers.now answer.old result answer.new }
 {
-    if answer.len() < numbers.len() {
+    let short = answer.len() < numbers.len();
+    if short {
         return false;
     }
     copy(numbers, answer);

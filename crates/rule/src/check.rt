@@ -148,7 +148,8 @@ pub fn tables_check(file: &[u8], rule: Rule) -> Outcome
     if let Outcome::Refused(_) = classes {
         return classes;
     }
-    if at.count < file.len() {
+    let more = at.count < file.len();
+    if more {
         return refuse(5, at.count);
     }
     Outcome::Passes

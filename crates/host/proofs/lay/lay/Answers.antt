@@ -13,8 +13,8 @@ lies : (numbers held : List ℕ) {held' : List ℕ} → length numbers ≤ lengt
 unfolding in_front fits
 lies numbers held h e = record { fitted_is = sym (le-leb _ _ h); held_is = rw (le-leb _ _ h) e }
 
-pub returns-then-answer-numbers : goal.returns-then-answer-numbers
-returns-then-answer-numbers c = stays c.args.numbers.now c.args.answer.now c.if-answer-numbers.true
+pub returns-then-short : goal.returns-then-short
+returns-then-short c = stays c.args.numbers.now c.args.answer.now c.if-short.true
 
 pub returns : goal.returns
-returns c = lies c.args.numbers.now c.args.answer.now c.if-answer-numbers.false c.copy.ensures
+returns c = lies c.args.numbers.now c.args.answer.now c.if-short.false c.copy.ensures

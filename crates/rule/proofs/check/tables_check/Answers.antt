@@ -45,10 +45,10 @@ returns-in-Refused-classes c =
     ∙ sym (passes-rest c.body_check-letters.ensures _ c.in_default.is)
     ∙ sym (tables-at c.args.file.now c.of-at.ensures)
 
-pub returns-then-at-file : goal.returns-then-at-file
-returns-then-at-file c =
+pub returns-then-more : goal.returns-then-more
+returns-then-more c =
     c.refuse.ensures
-    ∙ sym (refuse-stops 5 c.of-at.result.count _ (lt-ltb _ _ c.if-at-file.true))
+    ∙ sym (refuse-stops 5 c.of-at.result.count _ (lt-ltb _ _ c.if-more.true))
     ∙ sym (passes-rest c.body_check-classes.ensures _ c.in_default-classes.is)
     ∙ sym (passes-rest c.body_check-trees.ensures _ c.in_default-trees.is)
     ∙ sym (passes-rest c.body_check-letters.ensures _ c.in_default.is)
@@ -57,7 +57,7 @@ returns-then-at-file c =
 pub returns : goal.returns
 unfolding outcome_says
 returns c =
-    sym (refuse-passes 5 c.of-at.result.count _ (le-ltb _ _ c.if-at-file.false))
+    sym (refuse-passes 5 c.of-at.result.count _ (le-ltb _ _ c.if-more.false))
     ∙ sym (passes-rest c.body_check-classes.ensures _ c.in_default-classes.is)
     ∙ sym (passes-rest c.body_check-trees.ensures _ c.in_default-trees.is)
     ∙ sym (passes-rest c.body_check-letters.ensures _ c.in_default.is)
