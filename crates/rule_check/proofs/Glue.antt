@@ -8,7 +8,7 @@ use native.Mathlib.Decide.{dec_le}
 use native.Mathlib.Omega.{arith}
 use lib.ListN.{length, take, drop, length-append, take-append-drop}
 use lib.Seq.{take-take, take-append-le, drop-append-le, length-take-le}
-use Rattle.std.proofs.Common.{None, Some, IfSome}
+use Rattle.std.proofs.Common.{None, Some, IfSome, Result, Ok, Err, OnErr}
 use Rattle.std.specs.declared.option.Option.{Option}
 use Rattle.std.specs.Io.KnownBytes.{Consumes, IsAtEnd}
 use Rattle.std.proofs.KnownBytes.{Consumes-trans}
@@ -90,6 +90,19 @@ pub took-all : (file book : List ℕ) (size : ℕ) (before : Body) (there part :
     → Took file book size before [] → (w : TookMore file book size before there old new r) → Took file book size r.body (part ++ w.new)
 took-all file book size before there part old new r e t w =
     subst (λ (l : List ℕ). Took file book size r.body (l ++ w.new)) e (w.took [] t refl)
+
+-- ---- what a failure leaves
+
+-- what holds holds after a failure
+pub after-err : {A E P : Type 0} (r : Result A E) → P → OnErr r P
+after-err (Ok x) p = tt
+after-err (Err e) p = p
+
+-- what was taken from a reader before a call that failed, and what that call took
+pub lost-after : {A E : Type 0} (a b c : Option (List ℕ)) (bytes : List ℕ) (r : Result A E) → Consumes a b bytes
+    → OnErr r ((more : List ℕ) × Consumes b c more) → OnErr r ((all : List ℕ) × Consumes a c all)
+lost-after a b c bytes (Ok x) gave lost = tt
+lost-after a b c bytes (Err e) gave lost = (bytes ++ lost.0, Consumes-trans a b c bytes lost.0 gave lost.1)
 
 -- ---- all that a reader has
 

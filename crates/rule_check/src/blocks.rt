@@ -1,5 +1,5 @@
 // The body of the record of events, read block by block.
-ghost use Rattle.std.specs.Prelude.{◌≡◌, false, List, [], ◌++◌, ℕ, ◌≤◌, length, take, IfOk, IfSome};
+ghost use Rattle.std.specs.Prelude.{◌≡◌, false, List, [], ◌++◌, ℕ, ◌≤◌, length, take, IfOk, OnErr, IfSome};
 ghost use Rattle.std.specs.Io.KnownBytes.{Consumes};
 ghost use Rattle.std.specs.declared.option.Option.{Option};
 ghost use Rattle.meaning.specs.Answers.{given};
@@ -37,7 +37,8 @@ fn one_block<R: Read>(
 ) -> io::Result<Going>
     requires whole_block { length block.old ≡ block_length }
     requires there_within { there ≤ length block.old }
-    ensures { IfOk result (OneBlock file.now book.now size before (take there block.old) (R.remaining reader.old) (R.remaining reader.new)) }
+    ensures went { IfOk result (OneBlock file.now book.now size before (take there block.old) (R.remaining reader.old) (R.remaining reader.new)) }
+    ensures lost { OnErr result ((bytes : List ℕ) × Consumes (R.remaining reader.old) (R.remaining reader.new) bytes) }
 {
     let count = source::fill(reader, block, there)?;
     let body = body::take(file, book, size, before, &block[..count]);
@@ -60,8 +61,9 @@ fn read_body<R: Read>(
     block: &mut [u8],
 ) -> io::Result<Going>
     requires { length block.old ≡ block_length }
-    ensures { (before : Body) (there : List ℕ) (start : Option (List ℕ)) → OneBlock file.now book.now size before there start (R.remaining reader.old) first
+    ensures went { (before : Body) (there : List ℕ) (start : Option (List ℕ)) → OneBlock file.now book.now size before there start (R.remaining reader.old) first
         → IfOk result (λ last. TookMore file.now book.now size before there start (R.remaining reader.new) last × (last.more ≡ false)) }
+    ensures lost { OnErr result ((bytes : List ℕ) × Consumes (R.remaining reader.old) (R.remaining reader.new) bytes) }
 {
     let mut going = first;
     while going.more {
@@ -79,6 +81,7 @@ pub fn run<R: Read>(reader: &mut R, front: &[u8], at: EventsAt) -> io::Result<Te
     ensures in_room { IfOk result InRoom }
     ensures as_read { IfOk result (λ text. (new : List ℕ) × Consumes (R.remaining reader.old) (R.remaining reader.new) new × (text_says text ≡ printed (front.now ++ new))) }
     ensures as_all { IfOk result (λ text. IfSome (R.remaining reader.old) (λ rest. text_says text ≡ printed (front.now ++ rest))) }
+    ensures lost { OnErr result ((bytes : List ℕ) × Consumes (R.remaining reader.old) (R.remaining reader.new) bytes) }
 {
     let place = at.place;
     let size = at.size;

@@ -29,6 +29,7 @@ fn answer<R: Read>(reader: &mut R) -> io::Result<Text>
     ensures in_room { IfOk result InRoom }
     ensures as_read { IfOk result (λ text. (input : List ℕ) × Consumes (R.remaining reader.old) (R.remaining reader.new) input × (text_says text ≡ printed input)) }
     ensures as_all { IfOk result (λ text. IfSome (R.remaining reader.old) (λ input. text_says text ≡ printed input)) }
+    ensures lost { OnErr result ((bytes : List ℕ) × Consumes (R.remaining reader.old) (R.remaining reader.new) bytes) }
 {
     let mut front = [0u8; FRONT];
     let count = source::fill(reader, &mut front, 0)?;
@@ -44,7 +45,7 @@ fn tell<W: Write>(writer: &mut W, answer: io::Result<Text>) -> Result<(), Failur
     requires as_printed { IfOk answer (λ text. (input : List ℕ) × (text_says text ≡ printed input)) }
     ensures told { OnOk result (IsOkAnd answer (λ text. Appends (W.contents writer.old) (W.contents writer.new) (text_says text))) }
     ensures silent { OnErr answer (Keeps (W.contents writer.old) (W.contents writer.new)) }
-    ensures left { IfErr result (LeftBy (W.contents writer.old) (W.contents writer.new)) }
+    ensures left { IfErr result (LeftBy (λ bytes. IsOkAnd answer (λ text. text_says text ≡ bytes)) (W.contents writer.old) (W.contents writer.new)) }
 {
     match answer {
         Err(error) => Err(Failure::Input(error)),
@@ -58,7 +59,7 @@ fn tell<W: Write>(writer: &mut W, answer: io::Result<Text>) -> Result<(), Failur
 // The program on any reader and writer: where the bytes that the reader has are known, those that are printed for them are written.
 fn check<R: Read, W: Write>(reader: &mut R, writer: &mut W) -> Result<(), Failure>
     ensures prints { OnOk result (IfSome (R.remaining reader.old) (λ input. Appends (W.contents writer.old) (W.contents writer.new) (printed input))) }
-    ensures left { IfErr result (LeftBy (W.contents writer.old) (W.contents writer.new)) }
+    ensures left { IfErr result (LeftBy (λ bytes. (input : List ℕ) × Consumes (R.remaining reader.old) (R.remaining reader.new) input × (bytes ≡ printed input)) (W.contents writer.old) (W.contents writer.new)) }
 {
     tell(writer, answer(reader))
 }

@@ -1,5 +1,5 @@
 // Standard input, read into a buffer until that is full.
-ghost use Rattle.std.specs.Prelude.{◌≡◌, ◌≢◌, ◌+◌, ◌<◌, ◌≤◌, length, take, drop, IfOk, OnErr};
+ghost use Rattle.std.specs.Prelude.{◌≡◌, ◌≢◌, ◌+◌, ◌<◌, ◌≤◌, List, ℕ, length, take, drop, IfOk, OnErr};
 ghost use Rattle.std.specs.Io.KnownBytes.{Keeps, Consumes, IsAtEnd};
 
 use std::io;
@@ -43,13 +43,14 @@ fn read_some<R: Read>(reader: &mut R, buffer: &mut [u8], at: usize) -> io::Resul
 }
 
 // Reads until the buffer is full from a place on, or the input ends, or a read fails, and answers how many bytes the buffer
-// holds now. Short reads are normal. The bytes before the place stay.
+// holds now. Short reads are normal. The bytes before the place stay, also where a read fails after some that did not.
 pub fn fill<R: Read>(reader: &mut R, buffer: &mut [u8], from: usize) -> io::Result<usize>
     requires { from ≤ length buffer.old }
     ensures count_in_bounds { IfOk result (λ count. (from ≤ count) × (count ≤ length buffer.old)) }
     ensures buffer_unchanged { take from buffer.new ≡ take from buffer.old }
     ensures read { IfOk result (λ count. Consumes (R.remaining reader.old) (R.remaining reader.new) (drop from (take count buffer.new))) }
     ensures end { IfOk result (λ count. count < length buffer.old → IsAtEnd (R.remaining reader.new)) }
+    ensures lost { OnErr result ((bytes : List ℕ) × Consumes (R.remaining reader.old) (R.remaining reader.new) bytes) }
 {
     let mut at = from;
     while at < buffer.len() {

@@ -4,7 +4,7 @@ use Rattle.meaning.specs.CheckProgram.{front_length, printed}
 use Rattle.meaning.proofs.program.Fifth.{front-join}
 use Rattle.input.specs.Says.{front_says}
 use Rattle.program.specs.Texts.{text_says}
-use Rattle.rule_check.proofs.Glue.{front-decides, of-all}
+use Rattle.rule_check.proofs.Glue.{front-decides, of-all, lost-after}
 use Rattle.rule_check.proofs.answer.Goals as goal
 
 pub run-requires-clause-events_there : goal.run-requires-clause-events_there
@@ -26,3 +26,6 @@ returns-in-Refused-clause-as_all g c =
     = λ less. c.in_ok-count.ensures.«end» (omega (arith, long, less)) in
     of-all _ _ front (λ l. text_says c.refused_text.result ≡ printed l) c.in_ok-count.ensures.read
     (λ rest none. c.refused_text.ensures.says_printed _ (front-decides front rest (λ less. none (short less)) ∙ sym c.in-Refused.ensures))
+
+pub returns-in-Events-clause-lost : goal.returns-in-Events-clause-lost
+returns-in-Events-clause-lost g c = lost-after _ _ _ _ c.run.result c.in_ok-count.ensures.read c.run.ensures.lost

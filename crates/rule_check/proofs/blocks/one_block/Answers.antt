@@ -4,8 +4,8 @@ use Rattle.program.proofs.Blocks.{not-both}
 use Rattle.rule_check.proofs.Glue.{went-block, short-block}
 use Rattle.rule_check.proofs.blocks.one_block.Goals as goal
 
-pub returns : goal.returns
-returns g c =
+pub returns-clause-went : goal.returns-clause-went
+returns-clause-went g c =
     let a = c.args in
     let count = c.in_ok-count.count in
     let filled = c.in_ok-count.ensures in
@@ -23,8 +23,8 @@ returns g c =
           (omega (arith, grown.0), grown.1);
     }
 
-pub returns-then-body : goal.returns-then-body
-returns-then-body g c =
+pub returns-then-body-clause-went : goal.returns-then-body-clause-went
+returns-then-body-clause-went g c =
     let a = c.args in
     let count = c.in_ok-count.count in
     let filled = c.in_ok-count.ensures in

@@ -2,10 +2,11 @@ use Rattle.std.proofs.Common.{◌≡◌, ◌+◌, ◌-◌, ◌≤◌, ℕ, List,
 use mathlib.Core.List.{append-nil}
 use Rattle.std.proofs.lemmas.List.{take_all}
 use Rattle.std.specs.Io.KnownBytes.{IsAtEnd}
+use Rattle.std.proofs.KnownBytes.{Consumes-trans}
 use Rattle.meaning.specs.CheckProgram.{printed}
 use Rattle.program.specs.Texts.{text_says}
 use Rattle.program.proofs.Blocks.{carried-front}
-use Rattle.rule_check.proofs.Glue.{start-in, file-accepted, run-read, of-all}
+use Rattle.rule_check.proofs.Glue.{start-in, file-accepted, run-read, of-all, after-err}
 use Rattle.rule_check.proofs.blocks.run.Goals as goal
 
 pub overflow_add-start : goal.overflow_add-start
@@ -32,7 +33,7 @@ returns g c =
     = rw part (omega (arith, length-drop start front, c.requires.front_short)) in
     let laid = carried-front c.carry-there.ensures fits ∙ part in
     let took = c.begin-begun.ensures a.at.size (c.open-opened.ensures.first_reading (file-accepted front a.at.place a.at.size c.requires.events_there)) in
-    let went = c.in_ok-last.ensures _ _ _ c.in_ok-first.ensures in
+    let went = c.in_ok-last.ensures.went _ _ _ c.in_ok-first.ensures.went in
     let said : (rest : List ℕ) → (IsAtEnd (g.R.Read.remaining c.read_body.new.reader) → rest ≡ [])
     → text_says c.text.result ≡ printed (front ++ (went.0.new ++ rest))
     = λ rest none.
@@ -43,4 +44,11 @@ returns g c =
       in_room = c.text.ensures.in_room;
       as_read = (went.0.new, went.0.gave, said [] (λ e. refl) ∙ ap (λ l. printed (front ++ l)) (append-nil went.0.new));
       as_all = of-all _ _ went.0.new (λ l. text_says c.text.result ≡ printed (front ++ l)) went.0.gave said;
+      lost = tt;
     }
+
+pub returns-in_err-last-clause-lost : goal.returns-in_err-last-clause-lost
+returns-in_err-last-clause-lost g c =
+    let gave = c.in_ok-first.ensures.went.went in
+    let more = c.in_err-last.ensures.lost in
+    after-err c.from_residual-in_err-last.result (gave.new ++ more.0, Consumes-trans _ _ _ _ _ gave.gave more.1)
