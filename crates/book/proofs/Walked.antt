@@ -1,7 +1,7 @@
 -- The tables of an accepted file, walked: what each look finds is the rule's move, so the words that are joined stand for the
 -- states one move away.
 use mathlib.Core.Path.{◌≡◌, refl, sym, ap, ap₂, ◌∙◌}
-use mathlib.Core.Bool.{Bool, not, ◌&&◌, ◌||◌}
+use mathlib.Core.Bool.{Bool, not, ◌&&◌}
 use mathlib.Core.List.{List}
 use Prim.Native.Nat.{ℕ, ◌+◌, ◌^◌, ◌≤◌, ◌<◌}
 use native.Mathlib.Omega.{arith}
@@ -12,7 +12,6 @@ use Rattle.meaning.specs.RuleFile as format
 use Rattle.meaning.specs.RuleFile.{Move, none, as_move, letter_move, tree_move, tree_start_move, rule_of}
 use Rattle.meaning.specs.SkipBook.{any_below, goes_to, none_or, bit}
 use Rattle.meaning.proofs.skipbook.Rounds.{most-states}
-use Rattle.meaning.proofs.skipbook.Bits.{bit-zero}
 use Rattle.meaning.proofs.rulefile.Accepted.{accepted-is-rule}
 use Rattle.rule.specs.declared.Rule.{Rule}
 use Rattle.rule.specs.Says.{numbers_of, RuleOf}
@@ -22,7 +21,7 @@ use Rattle.rule.specs.declared.tables.Move.TheVariants as found
 use Rattle.rule.specs.Tables.{letter_byte, tree_byte, move_says, move_in}
 use Rattle.rule.proofs.Looks.{found-is, letter-look, tree-look}
 use Rattle.book.specs.Sets.{StandsFor, StatesOf, state_or_none, by_letters, by_trees, first_of, changing}
-use Rattle.book.proofs.Standing.{stands-as, stands-only, stands-empty, stands-more, members-below, Turn}
+use Rattle.book.proofs.Standing.{stands-as, stands-only, stands-empty, stands-more, members-below}
 
 -- ---- what a look finds, and the state that it leads to
 
@@ -103,18 +102,14 @@ module _ {file : List ℕ} {rule : Rule} (ok : RuleOf file rule) where
   letters-walked q set s =
       stands-as set _ _ (λ p h. ap (λ (k : ℕ). any_below k (λ a. goes_to p (letter_move (rule_of file) q a))) (sym letters-are)) s
 
-  -- the members of a set of lower states, before the first: nothing is joined
-  pub trees-first : (u lowers : ℕ) → lowers < 2 ^ 64 → StatesOf rule.states lowers
-      → Turn (tree_has (rule_of file) u) (by_trees (rule_of file) lowers u) 0 lowers
+  -- what some lower state of a set has, where these are states
+  pub trees-joined : (u lowers set : ℕ) → StatesOf rule.states lowers → StandsFor set (λ p. any_below 64 (λ m. bit lowers m && goes_to p (tree_move (rule_of file) u m)))
+      → StandsFor set (by_trees (rule_of file) lowers u)
   unfolding by_trees
-  trees-first u lowers small states =
+  trees-joined u lowers set states =
       let R : format.Rule = rule_of file in
-      record {
-        small = small;
-        same = λ p h. ap (λ (b : Bool). b || any_below 64 (λ m. bit lowers m && goes_to p (tree_move R u m))) (bit-zero p)
-            ∙ members-below rule.states lowers (λ m. goes_to p (tree_move R u m)) few-states states
-            ∙ ap (λ (n : ℕ). any_below n (λ m. bit lowers m && goes_to p (tree_move R u m))) (sym states-are);
-      }
+      stands-as set _ _ (λ p h. members-below rule.states lowers (λ m. goes_to p (tree_move R u m)) few-states states
+      ∙ ap (λ (n : ℕ). any_below n (λ m. bit lowers m && goes_to p (tree_move R u m))) (sym states-are))
 
   -- what the look with a lower state finds leads where that lower state does
   pub tree-goes : (u m w : ℕ) {found : tables.Move} → found ≡ move_in TreeMoves (tree_byte file rule.states rule.letters u m)

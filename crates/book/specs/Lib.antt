@@ -1,3 +1,4 @@
 -- What the contracts of the making cite.
 pub mod Sets
+pub mod Members
 pub mod Says

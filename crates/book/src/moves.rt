@@ -1,12 +1,12 @@
 // The moves of a rule as sets of states: the tables are walked here, and nowhere else.
-ghost use Rattle.std.specs.Prelude.{◌≡◌, not, [], ◌<◌};
+ghost use Rattle.std.specs.Prelude.{◌≡◌, ◌||◌, not, [], ◌<◌, get_or};
 ghost use Rattle.meaning.specs.RuleFile.{rule_of};
-ghost use Rattle.meaning.specs.SkipBook.{goes_to, none_or};
+ghost use Rattle.meaning.specs.SkipBook.{bit, goes_to, none_or};
 ghost use Rattle.rule.specs.Says.{RuleOf};
 ghost use Rattle.rule.specs.Tables.{move_says};
 ghost use Rattle.book.specs.Sets.{StandsFor, StatesOf, Moves, WithTrees, state_or_none, by_letters, by_trees, changing};
 
-use crate::sets::{no_sets, only, with};
+use crate::sets::{only, states_with, table_of, union_of};
 use rule::Rule;
 use rule::tables::Move;
 
@@ -40,10 +40,8 @@ fn by_letters(file: &[u8], rule: Rule, state: u8) -> u64
     ensures { StandsFor result (by_letters (rule_of file.now) state) }
 {
     let mut set: u64 = 0;
-    let mut letter: u16 = 0;
-    while letter < rule.letters {
+    for letter in 0..rule.letters {
         set |= target(rule::tables::letter_move(file, rule, state, letter));
-        letter += 1;
     }
     set
 }
@@ -53,13 +51,7 @@ pub fn letter_moves(file: &[u8], rule: Rule) -> [u64; 64]
     requires { RuleOf file.now rule }
     ensures { Moves (rule_of file.now) [] result }
 {
-    let mut table = no_sets();
-    let mut state: u8 = 0;
-    while state < rule.states {
-        table[state as usize] = by_letters(file, rule, state);
-        state += 1;
-    }
-    table
+    table_of(rule.states, |state| by_letters(file, rule, state))
 }
 
 // The states that the lower states of a set lead to from an upper state.
@@ -69,14 +61,9 @@ fn by_trees(file: &[u8], rule: Rule, upper: u8, lowers: u64) -> u64
     requires lowers_are_states { StatesOf rule.states lowers }
     ensures { StandsFor result (by_trees (rule_of file.now) lowers upper) }
 {
-    let mut set: u64 = 0;
-    let mut rest = lowers;
-    while rest != 0 {
-        let lower = u64::trailing_zeros(rest) as u8;
-        set |= target(rule::tables::tree_move(file, rule, upper, lower));
-        rest &= rest - 1;
-    }
-    set
+    union_of(lowers, |lower| {
+        target(rule::tables::tree_move(file, rule, upper, lower))
+    })
 }
 
 // The table, and in it the tree moves with the lower states of a set.
@@ -85,14 +72,15 @@ pub fn with_trees(file: &[u8], rule: Rule, table: &[u64; 64], lowers: u64) -> [u
     requires lowers_are_states { StatesOf rule.states lowers }
     ensures { WithTrees (rule_of file.now) lowers table.now result }
 {
-    let mut more = no_sets();
-    let mut upper: u8 = 0;
-    while upper < rule.states {
-        let own = table[upper as usize];
-        more[upper as usize] = own | by_trees(file, rule, upper, lowers);
-        upper += 1;
-    }
-    more
+    table_of(
+        rule.states,
+        |upper|
+            requires rule_of { RuleOf file.now rule }
+            requires is_state { upper < rule.states }
+            requires lowers_are_states { StatesOf rule.states lowers }
+            ensures { StandsFor result (λ p. bit (get_or table.entry.now upper 0) p || by_trees (rule_of file.entry.now) lowers upper p) }
+        { table[upper as usize] | by_trees(file, rule, upper, lowers) },
+    )
 }
 
 // Whether a tree move leads from its upper state to another one.
@@ -112,12 +100,7 @@ pub fn changes(file: &[u8], rule: Rule, upper: u8) -> u64
     requires is_state { upper < rule.states }
     ensures { StandsFor result (changing (rule_of file.now) upper) }
 {
-    let mut set: u64 = 0;
-    let mut lower: u8 = 0;
-    while lower < rule.states {
-        let found = rule::tables::tree_move(file, rule, upper, lower);
-        set = with(set, only(lower), changed(found, upper));
-        lower += 1;
-    }
-    set
+    states_with(rule.states, |lower| {
+        changed(rule::tables::tree_move(file, rule, upper, lower), upper)
+    })
 }

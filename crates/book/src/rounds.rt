@@ -8,7 +8,7 @@ ghost use Rattle.rule.specs.Says.{RuleOf};
 ghost use Rattle.book.specs.Sets.{Moves, EndsFound, Reached, reached_word};
 
 use crate::moves::{letter_moves, target, with_trees};
-use crate::sets::{no_sets, only, with_members};
+use crate::sets::{only, table_of, with_members};
 use rule::Rule;
 
 // The rounds before the last one.
@@ -30,15 +30,13 @@ pub fn tree_ends(file: &[u8], rule: Rule) -> TreeEnds
     let mut set = target(rule::tables::tree_start(rule));
     let letters = letter_moves(file, rule);
     let mut moves = with_trees(file, rule, &letters, set);
-    let mut round: u8 = 0;
-    while round < BEFORE_LAST {
+    for _round in 0..BEFORE_LAST {
         let next = with_members(&moves, set);
         if next == set {
             return TreeEnds { set, moves };
         }
         moves = with_trees(file, rule, &moves, next ^ set);
         set = next;
-        round += 1;
     }
     TreeEnds { set, moves }
 }
@@ -49,14 +47,12 @@ fn reach_from(moves: &[u64; 64], state: u8) -> u64
     ensures { (R : format.Rule) → IsRule R → Moves R (end_marks R) moves.now → state < R.states → result ≡ reached_word R 63 state }
 {
     let mut set = only(state);
-    let mut round: u8 = 0;
-    while round < BEFORE_LAST {
+    for _round in 0..BEFORE_LAST {
         let next = with_members(moves, set);
         if next == set {
             return set;
         }
         set = next;
-        round += 1;
     }
     set
 }
@@ -66,13 +62,7 @@ pub fn reach_from_all(moves: &[u64; 64], states: u8) -> [u64; 64]
     requires { states ≤ 64 }
     ensures { (R : format.Rule) → IsRule R → Moves R (end_marks R) moves.now → R.states ≡ states → Reached R 63 result }
 {
-    let mut table = no_sets();
-    let mut state: u8 = 0;
-    while state < states {
-        table[state as usize] = reach_from(moves, state);
-        state += 1;
-    }
-    table
+    table_of(states, |state| reach_from(moves, state))
 }
 
 // Whether the last round still adds a state, to the set of the tree start or from some state.
@@ -83,13 +73,10 @@ pub fn last_adds(moves: &[u64; 64], ends: u64, reach: &[u64; 64], states: u8) ->
     if with_members(moves, ends) != ends {
         return true;
     }
-    let mut state: u8 = 0;
-    while state < states {
-        let set = reach[state as usize];
-        if with_members(moves, set) != set {
+    for set in &reach[..states as usize] {
+        if with_members(moves, *set) != *set {
             return true;
         }
-        state += 1;
     }
     false
 }
