@@ -1,4 +1,3 @@
 -- What the contracts of the making cite.
 pub mod Sets
 pub mod Members
-pub mod Says

@@ -4,12 +4,11 @@ ghost use Rattle.std.specs.Prelude.{◌≡◌, ◌<◌, ◌≤◌};
 ghost use Rattle.meaning.specs.RuleFile as format;
 ghost use Rattle.meaning.specs.RuleFile.{IsRule, rule_of};
 ghost use Rattle.meaning.specs.SkipBook.{end_marks, rounds_used_up};
-ghost use Rattle.rule.specs.Says.{RuleOf};
 ghost use Rattle.book.specs.Sets.{Moves, EndsFound, Reached, reached_word};
 
 use crate::moves::{letter_moves, target, with_trees};
 use crate::sets::{only, table_of, with_members};
-use rule::Rule;
+use rule::CheckedRule;
 
 // The rounds before the last one.
 const BEFORE_LAST: u8 = 63;
@@ -23,19 +22,18 @@ pub struct TreeEnds {
 
 // The states in which a tree can end, in all rounds before the last. The set of a round is the lower states of the next: the
 // table gets the tree moves of what a round added, so that each tree move is looked at once at most.
-pub fn tree_ends(file: &[u8], rule: Rule) -> TreeEnds
-    requires { RuleOf file.now rule }
-    ensures { EndsFound (rule_of file.now) 63 result.set result.moves }
+pub fn tree_ends(rule: CheckedRule) -> TreeEnds
+    ensures { EndsFound (rule_of rule.entry.file.now) 63 result.set result.moves }
 {
-    let mut set = target(rule::tables::tree_start(rule));
-    let letters = letter_moves(file, rule);
-    let mut moves = with_trees(file, rule, &letters, set);
+    let mut set = target(rule::tables::tree_start(rule.rule));
+    let letters = letter_moves(rule);
+    let mut moves = with_trees(rule, &letters, set);
     for _round in 0..BEFORE_LAST {
         let next = with_members(&moves, set);
         if next == set {
             return TreeEnds { set, moves };
         }
-        moves = with_trees(file, rule, &moves, next ^ set);
+        moves = with_trees(rule, &moves, next ^ set);
         set = next;
     }
     TreeEnds { set, moves }

@@ -5,12 +5,11 @@ ghost use Rattle.std.specs.Int.Count.{ones};
 ghost use Rattle.meaning.specs.Answers.{◌=?◌};
 ghost use Rattle.meaning.specs.RuleFile.{rule_of};
 ghost use Rattle.meaning.specs.SkipBook.{still_marks, hold_marks, word_of, book_of};
-ghost use Rattle.rule.specs.Says.{RuleOf};
 ghost use Rattle.book.specs.Sets.{StandsFor, first_of, Reached, Holds};
 
 use crate::moves::changes;
 use crate::sets::{only, states_with, table_of};
-use rule::Rule;
+use rule::CheckedRule;
 
 // The states whose reach is themselves alone.
 fn still_word(reach: &[u64; 64], states: u8) -> u64
@@ -29,18 +28,16 @@ fn hold_word(reach: &[u64; 64], states: u8, change: u64) -> u64
 }
 
 // hold(u) for each state u.
-fn hold_words(file: &[u8], rule: Rule, reach: &[u64; 64]) -> [u64; 64]
-    requires { RuleOf file.now rule }
+fn hold_words(rule: CheckedRule, reach: &[u64; 64]) -> [u64; 64]
     ensures long { length result ≡ 64 }
-    ensures holds { Reached (rule_of file.now) 64 reach.now → Holds (rule_of file.now) result }
+    ensures holds { Reached (rule_of rule.entry.file.now) 64 reach.now → Holds (rule_of rule.entry.file.now) result }
 {
     table_of(
-        rule.states,
+        rule.rule.states,
         |upper|
-            requires rule_of { RuleOf file.now rule }
-            requires is_state { upper < rule.states }
-            ensures { Reached (rule_of file.entry.now) 64 reach.entry.now → result ≡ word_of (hold_marks (rule_of file.entry.now) upper) }
-        { hold_word(reach, rule.states, changes(file, rule, upper)) },
+            requires { upper < rule.rule.states }
+            ensures { Reached (rule_of rule.entry.file.now) 64 reach.entry.now → result ≡ word_of (hold_marks (rule_of rule.entry.file.now) upper) }
+        { hold_word(reach, rule.rule.states, changes(rule, upper)) },
     )
 }
 
@@ -58,16 +55,15 @@ fn write_words(book: &mut [u64], still: u64, holds: &[u64; 64], states: u8)
 
 // The book of a rule whose Reach is found, made in its own room and then written. The answer is how many states are still,
 // counted as the ones in that word.
-pub fn write_book(file: &[u8], rule: Rule, reach: &[u64; 64], book: &mut [u64]) -> u32
-    requires rule_of { RuleOf file.now rule }
-    requires room { rule.states < length book.old }
-    requires reached { Reached (rule_of file.now) 64 reach.now }
-    ensures still_count { result ≡ ones (word_of (still_marks (rule_of file.now))) }
-    ensures book_after { book.new ≡ book_of (rule_of file.now) ++ drop (rule.states + 1) book.old }
+pub fn write_book(rule: CheckedRule, reach: &[u64; 64], book: &mut [u64]) -> u32
+    requires room { rule.rule.states < length book.old }
+    requires reached { Reached (rule_of rule.file.now) 64 reach.now }
+    ensures still_count { result ≡ ones (word_of (still_marks (rule_of rule.entry.file.now))) }
+    ensures book_after { book.new ≡ book_of (rule_of rule.entry.file.now) ++ drop (rule.entry.rule.states + 1) book.old }
 {
-    let states = rule.states;
+    let states = rule.rule.states;
     let still = still_word(reach, states);
-    let holds = hold_words(file, rule, reach);
+    let holds = hold_words(rule, reach);
     write_words(book, still, &holds, states);
     u64::count_ones(still)
 }

@@ -6,11 +6,11 @@ use Rattle.book.proofs.EndSet.{letters-alone}
 use Rattle.book.proofs.moves.letter_moves.Goals as goal
 
 pub table_of-requires-clause-few_states : goal.table_of-requires-clause-few_states
-table_of-requires-clause-few_states c = few-states c.requires
+table_of-requires-clause-few_states c = few-states c.args.rule.accepted
 
 pub returns : goal.returns
 unfolding Moves
 returns c q h =
-    let each = c.table_of.ensures.each q (omega (arith, states-are c.requires)) in
-    let own : StandsFor (get_or c.table_of.result q 0) (by_letters (rule_of c.args.file.now) q) = search rules in
+    let each = c.table_of.ensures.each q (omega (arith, states-are c.args.rule.accepted)) in
+    let own : StandsFor (get_or c.table_of.result q 0) (by_letters (rule_of c.args.rule.file.now) q) = search rules in
     letters-alone _ _ _ own

@@ -4,4 +4,4 @@ use Rattle.book.specs.Sets.{EndsFound}
 use Rattle.book.proofs.rounds.tree_ends.Given as goal
 
 abbrev pub invariant-loop-round : goal.invariant-loop-round
-invariant-loop-round l = EndsFound (rule_of l.file) l._round l.set l.moves
+invariant-loop-round l = EndsFound (rule_of l.rule.file.now) l._round l.set l.moves
