@@ -2,7 +2,7 @@
 use Rattle.std.proofs.Common.{arith, sym, ◌∙◌, le-ltb, lt-ltb}
 use Rattle.meaning.specs.SkipBook.{in_hold}
 use Rattle.meaning.specs.Skipping.{held}
-use Rattle.turning.proofs.settling.is_held.Goals as goal
+use Rattle.turning.proofs.settling.in_hold.Goals as goal
 
 pub returns-then-reading-eq0 : goal.returns-then-reading-eq0
 unfolding held
