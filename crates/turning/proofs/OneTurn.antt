@@ -2,12 +2,11 @@
 -- What was a reading still is one, and each event that is taken is one more.
 use Rattle.std.proofs.Common.{Option, Some, None, Result, Ok, Err}
 use mathlib.Core.Path.{◌≡◌, refl, sym, ◌∙◌}
-use mathlib.Core.Bool.{Bool}
 use mathlib.Core.List.{List, [], ◌∷◌}
 use Prim.Native.Nat.{ℕ, ◌+◌, ◌-◌, ◌≤◌, ◌<◌}
 use native.Mathlib.Numerals.{add-one}
 use native.Mathlib.Omega.{arith}
-use lib.ListN.{length, get_or, drop, set, drop_of_length-le, length-set}
+use lib.ListN.{length, get_or, drop, drop_of_length-le, length-set}
 use lib.Seq.{drop-cons}
 use Rattle.meaning.specs.Answers.{Answer, given}
 use Rattle.meaning.specs.RuleFile.{rule_of}

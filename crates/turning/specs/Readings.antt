@@ -1,10 +1,8 @@
 -- What the code may count on of a reading: that its states are the rule's, that its counts are within the events taken, and that
 -- a book has the words and the bits that are asked of it.
 use Rattle.std.specs.Prelude.{ℕ, ◌+◌, ◌≤◌, ◌<◌, List, length}
-use Rattle.meaning.specs.FullReading.{most_events}
 use Rattle.meaning.specs.declared.Reading.{Reading}
 use Rattle.meaning.specs.declared.Level.{Level}
-use Rattle.rule.specs.Says.{RuleOf}
 use Rattle.rule.specs.declared.Rule.{Rule}
 
 -- the state, and the state above if there is one, are states of the rule

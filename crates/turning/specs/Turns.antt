@@ -1,8 +1,8 @@
 -- What one event leads to, as the code has it and as the definitions have it, and what the code may count on there.
-use Rattle.std.specs.Prelude.{ℕ, ◌<◌, ◌≡◌, Bool, true, false, List, length, if◌then◌else◌, Result, Ok, Err}
-use Rattle.meaning.specs.Answers.{Answer, given, refused, ◌≤?◌}
+use Rattle.std.specs.Prelude.{ℕ, ◌<◌, ◌≡◌, Bool, true, false, List, length, Result, Ok, Err}
+use Rattle.meaning.specs.Answers.{Answer, given, refused, refuse◌at◌when◌otherwise◌, ◌≤?◌}
 use Rattle.meaning.specs.FullReading as full
-use Rattle.meaning.specs.FullReading.{stays, stores, ends}
+use Rattle.meaning.specs.FullReading.{stays, stores, ends, no_move_number}
 use Rattle.meaning.specs.RuleFile.{rule_of}
 use Rattle.meaning.specs.Calls.{Stored, not_reading}
 use Rattle.meaning.specs.Calls.{number_of}
@@ -11,9 +11,8 @@ use Rattle.meaning.specs.Skipping.{held, settled}
 use Rattle.meaning.specs.declared.Reading.{Reading}
 use Rattle.meaning.specs.declared.Level.{Level}
 use Rattle.meaning.specs.declared.reason.Reason.{Reason}
-use Rattle.meaning.specs.declared.reason.Reason.TheVariants as reason
 use Rattle.rule.specs.Says.{RuleOf}
-use Rattle.rule.specs.Tables.{no_move_reason}
+use Rattle.rule.specs.Tables.{table_says}
 use Rattle.rule.specs.declared.Rule.{Rule}
 use Rattle.rule.specs.declared.tables.Table.{Table}
 use Rattle.turning.specs.Readings.{StatesIn, Counted}
@@ -44,14 +43,19 @@ ends_by book s = skipping.ends_level (rule_of s.rule.file.now) book s.room s.cei
 abbrev pub settled_by : List ℕ → Standing → full.Event → Answer full.Turn
 settled_by book s e = skipping.settled_turn (rule_of s.rule.file.now) book s.room s.ceiling s.reading s.top e
 
--- what a look comes to where it is let: the state, or the reason of the table that has no move
-unfoldable pub found_answer : Result ℕ Table → Result ℕ Reason
-found_answer (Ok state) = Ok state
-found_answer (Err table) = Err (no_move_reason table)
+-- the state that a look came to, or the number of its refusal, which has the place of the event
+unfoldable pub look_says : Reading → Result ℕ Reason → Answer ℕ
+look_says before (Ok state) = given state
+look_says before (Err reason) = refused (number_of reason) before.taken
+
+-- what a look comes to where it is let: the state, or the number of the table that has no move
+unfoldable pub found_answer : Reading → Result ℕ Table → Answer ℕ
+found_answer r (Ok state) = given state
+found_answer r (Err table) = refused (no_move_number (table_says table)) r.taken
 
 -- what a look comes to: the ceiling first, and then what was found
-unfoldable pub look_answer : ℕ → Reading → Result ℕ Table → Result ℕ Reason
-look_answer ceiling r found = if ceiling ≤? r.looks then (Err reason.AtCeiling) else (found_answer found)
+unfoldable pub look_answer : ℕ → Reading → Result ℕ Table → Answer ℕ
+look_answer ceiling r found = refuse 9 at r.taken when ceiling ≤? r.looks otherwise found_answer r found
 
 -- what one event may count on: the rule, its book, and what number 13 lets through
 pub record Ready (file : List ℕ) (rule : Rule) (book : List ℕ) (r : Reading) (top : Level) : Type 0 where

@@ -6,7 +6,7 @@ ghost use Rattle.meaning.specs.FullReading.{opens, closes, letter, event_of, mos
 ghost use Rattle.meaning.specs.FullReading as full;
 ghost use Rattle.meaning.specs.Skipping as skipping;
 ghost use Rattle.meaning.specs.Skipping.{skip_event};
-ghost use Rattle.turning.specs.Turns.{turn_says, look_answer, Stands, full_by, ends_by, settled_by};
+ghost use Rattle.turning.specs.Turns.{turn_says, look_says, look_answer, Stands, full_by, ends_by, settled_by};
 
 use crate::settling::Settled;
 use crate::{Standing, Turn};
@@ -75,7 +75,7 @@ impl<'a> Taking<'a> {
 
     // A look: the ceiling first, and then the move that the table has.
     fn look_up(&self, found: Result<u8, Table>) -> Result<u8, Reason>
-        ensures { result ≡ look_answer self.now.standing.ceiling self.now.standing.reading found }
+        ensures { look_says self.now.standing.reading result ≡ look_answer self.now.standing.ceiling self.now.standing.reading found }
     {
         if self.standing.ceiling <= self.standing.reading.looks {
             return Err(Reason::AtCeiling);

@@ -1,6 +1,6 @@
 -- What is passed over and then one event, or nothing where no event is left. The book was asked before the events were passed
 -- over.
-use Rattle.std.proofs.Common.{arith, refl, sym, ◌∙◌}
+use Rattle.std.proofs.Common.{refl, ◌∙◌}
 use Rattle.turning.specs.Advancing.{stored}
 use Rattle.turning.proofs.Turned.{book-serves, few-letters}
 use Rattle.turning.proofs.OneTurn.{passed-readings, passed-stands, passed-feeds, passed-top, passes-all, passes_on}

@@ -1,5 +1,5 @@
 -- Each turn leaves what the definition's step leaves, with its record laid where it says.
-use Rattle.std.proofs.Common.{refl, sym, ◌∙◌, arith}
+use Rattle.std.proofs.Common.{refl, sym, ◌∙◌}
 use Rattle.meaning.specs.Answers.{◌giving◌}
 use Rattle.meaning.specs.Calls.{refusal_says, stored_after}
 use Rattle.turning.specs.Turns.{turn_says, turn_of}

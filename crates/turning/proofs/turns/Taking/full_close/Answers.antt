@@ -20,8 +20,8 @@ returns-in_err-state c =
     let inside = c.if-reading-eq0.false in
     let p = err_from_is_err_and c.from_residual.result c.from_residual.ensures.1 in
     rw (p.1, p.2)
-    (sym (close-turn s.rule.accepted s.room _ s.reading s.top inside s.states_in.state_in (s.states_in.above_in (omega (arith, inside)))
-    ∙ look-refuses _ s.reading TreeMoves _ _ c.tree_move.ensures c.look_up.ensures c.in_err-state.was))
+    (look-refuses _ s.reading TreeMoves _ _ c.tree_move.ensures c.look_up.ensures c.in_err-state.was
+    ∙ sym (close-turn s.rule.accepted s.room _ s.reading s.top inside s.states_in.state_in (s.states_in.above_in (omega (arith, inside)))))
 
 pub returns : goal.returns
 unfolding turn_says turn_of
@@ -29,5 +29,5 @@ returns c =
     let s = c.args.self.now.standing in
     let inside = c.if-reading-eq0.false in
     rw c.looked.ensures
-    (sym (close-turn s.rule.accepted s.room _ s.reading s.top inside s.states_in.state_in (s.states_in.above_in (omega (arith, inside)))
-    ∙ look-gives _ s.reading TreeMoves _ _ c.tree_move.ensures c.look_up.ensures c.in_ok-state.was))
+    (look-gives _ s.reading TreeMoves _ _ c.tree_move.ensures c.look_up.ensures c.in_ok-state.was
+    ∙ sym (close-turn s.rule.accepted s.room _ s.reading s.top inside s.states_in.state_in (s.states_in.above_in (omega (arith, inside)))))

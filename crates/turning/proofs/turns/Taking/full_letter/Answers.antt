@@ -12,13 +12,13 @@ returns-in_err-state c =
     let s = c.args.self.now.standing in
     let p = err_from_is_err_and c.from_residual.result c.from_residual.ensures.1 in
     rw (p.1, p.2)
-    (sym (letter-turn s.rule.accepted s.room _ s.reading s.top _ s.states_in.state_in c.requires
-    ∙ look-refuses _ s.reading LetterMoves _ _ c.letter_move.ensures c.look_up.ensures c.in_err-state.was))
+    (look-refuses _ s.reading LetterMoves _ _ c.letter_move.ensures c.look_up.ensures c.in_err-state.was
+    ∙ sym (letter-turn s.rule.accepted s.room _ s.reading s.top _ s.states_in.state_in c.requires))
 
 pub returns : goal.returns
 unfolding turn_says turn_of
 returns c =
     let s = c.args.self.now.standing in
     rw c.looked.ensures
-    (sym (letter-turn s.rule.accepted s.room _ s.reading s.top _ s.states_in.state_in c.requires
-    ∙ look-gives _ s.reading LetterMoves _ _ c.letter_move.ensures c.look_up.ensures c.in_ok-state.was))
+    (look-gives _ s.reading LetterMoves _ _ c.letter_move.ensures c.look_up.ensures c.in_ok-state.was
+    ∙ sym (letter-turn s.rule.accepted s.room _ s.reading s.top _ s.states_in.state_in c.requires))

@@ -19,13 +19,13 @@ returns-in_err-state c =
     let s = c.args.self.now.standing in
     let p = err_from_is_err_and c.from_residual.result c.from_residual.ensures.1 in
     rw (p.1, p.2)
-    (sym (open_turn s.rule.accepted _ _ s.reading s.top c.if-self-reading.false
-    ∙ look-refuses _ s.reading TreeStart _ _ c.tree_start.ensures c.look_up.ensures c.in_err-state.was))
+    (look-refuses _ s.reading TreeStart _ _ c.tree_start.ensures c.look_up.ensures c.in_err-state.was
+    ∙ sym (open_turn s.rule.accepted _ _ s.reading s.top c.if-self-reading.false))
 
 pub returns : goal.returns
 unfolding turn_says turn_of new_level
 returns c =
     let s = c.args.self.now.standing in
     rw c.looked.ensures
-    (sym (open_turn s.rule.accepted _ _ s.reading s.top c.if-self-reading.false
-    ∙ look-gives _ s.reading TreeStart _ _ c.tree_start.ensures c.look_up.ensures c.in_ok-state.was))
+    (look-gives _ s.reading TreeStart _ _ c.tree_start.ensures c.look_up.ensures c.in_ok-state.was
+    ∙ sym (open_turn s.rule.accepted _ _ s.reading s.top c.if-self-reading.false))
