@@ -2,7 +2,7 @@
 ghost use Rattle.std.specs.Prelude.{◌≡◌, true, List, [], ◌∷◌, ℕ, ◌+◌, ◌≤◌, ◌<◌, length, IfSome};
 ghost use Rattle.meaning.specs.FullReading.{most_events};
 ghost use Rattle.meaning.specs.Skipping as skipping;
-ghost use Rattle.turning.specs.Turns.{Counted};
+ghost use Rattle.turning.specs.Readings.{Counted};
 ghost use Rattle.turning.specs.PassingOver.{CountsOf, no_event, one_more, joined, Short, DepthsOf, AllPassed, PassedIn, PassesOver};
 
 use crate::PassedTo;
