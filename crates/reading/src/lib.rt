@@ -25,9 +25,9 @@ use turning::advancing::top_place;
 
 // What feeding answers over levels of one's own: the answer, and the levels after it.
 #[derive(Clone, Copy)]
-pub struct FedArray {
+pub struct FedArray<const N: usize> {
     pub fed: Fed,
-    pub levels: [Level; 1024],
+    pub levels: [Level; N],
 }
 
 // Open a rule, given as the bytes of its file: the lent book is filled, and the answer is the fresh reading and how many states
@@ -88,15 +88,15 @@ pub fn finish(file: &[u8], book: &[u64], reading: Reading, levels: &[Level]) -> 
 }
 
 // Feed over levels of one's own, for a caller that holds them by value.
-pub fn feed_array(
+pub fn feed_array<const N: usize>(
     file: &[u8],
     book: &[u64],
     ceiling: u32,
     reading: Reading,
-    levels: [Level; 1024],
+    levels: [Level; N],
     events: &[u16],
-) -> FedArray
-    ensures { FedIs (feed_call file.now book.now ceiling reading levels events.now) reading result.fed result.levels }
+) -> FedArray<N>
+    ensures { FedIs (feed_call file.now book.now ceiling reading levels.entry events.now) reading result.fed result.levels }
 {
     let mut store = levels;
     let fed = feed(file, book, ceiling, reading, &mut store, events);
@@ -104,8 +104,13 @@ pub fn feed_array(
 }
 
 // Finish over levels of one's own.
-pub fn finish_array(file: &[u8], book: &[u64], reading: Reading, levels: [Level; 1024]) -> End
-    ensures { end_says result ≡ finish_call file.now book.now reading levels }
+pub fn finish_array<const N: usize>(
+    file: &[u8],
+    book: &[u64],
+    reading: Reading,
+    levels: [Level; N],
+) -> End
+    ensures { end_says result ≡ finish_call file.now book.now reading levels.entry }
 {
     finish(file, book, reading, &levels)
 }
