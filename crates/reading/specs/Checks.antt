@@ -9,17 +9,10 @@ use Rattle.meaning.specs.declared.Level.{Level}
 use Rattle.meaning.specs.declared.Reading.{Reading}
 use Rattle.rule.specs.Says.{numbers_of}
 use Rattle.rule.specs.declared.Rule.{Rule}
-use Rattle.rule.specs.declared.Checked.{Checked}
-use Rattle.rule.specs.declared.Checked.TheVariants as checked
 
 -- the stored states below a depth are all below n
 abbrev pub aboves_in : ℕ → ℕ → List Level → Bool
 aboves_in n depth store = all_below depth (λ i. is_state n (get_or store i blank).above)
-
--- the rule that a check gave, or four zeros
-unfoldable pub rule_in : Checked → Rule
-rule_in (checked.Fine rule) = rule
-rule_in (checked.Refused r) = record { states = 0; initial = 0; tree_start = 0; letters = 0 }
 
 -- what feed and finish check first: rule, 6, 13; if all passes, the numbers of the rule
 unfoldable pub reading_answer : List ℕ → List ℕ → Reading → List Level → Answer Rule

@@ -1,35 +1,18 @@
 // What feed and finish check first: the rule, the length of the book, and that the reading is one.
-ghost use Rattle.std.specs.Prelude.{◌≡◌, not, ◌&&◌, ◌||◌, ◌≤◌, ◌<◌, length};
-ghost use Rattle.meaning.specs.Answers.{◌<?◌};
+ghost use Rattle.std.specs.Prelude.{◌≡◌, not, ◌&&◌, ◌||◌, ◌≤◌, ◌<◌, length, IfOk, IfErr};
+ghost use Rattle.meaning.specs.Answers.{given, ◌<?◌};
 ghost use Rattle.meaning.specs.RuleFile as format;
 ghost use Rattle.meaning.specs.RuleFile.{is_state};
 ghost use Rattle.meaning.specs.Skipping.{settled};
-ghost use Rattle.meaning.specs.Calls.{depth_past_store, levels_past_taken, looks_past_taken, not_reading};
-ghost use Rattle.rule.specs.Says.{checked_says};
-ghost use Rattle.turning.specs.Turns.{BookServes};
-ghost use Rattle.reading.specs.Checks.{aboves_in, rule_in, reading_answer};
+ghost use Rattle.meaning.specs.Calls.{refusal_says, depth_past_store, levels_past_taken, looks_past_taken, not_reading};
+ghost use Rattle.turning.specs.Readings.{BookServes};
+ghost use Rattle.reading.specs.Checks.{aboves_in, reading_answer};
 
-use levels::{level_at, room};
-use meaning::{Level, Reading, Refusal};
-use rule::{Checked, Rule};
-use turning::advancing::top_place;
-use turning::settling::{is_held, is_settled};
-
-// The rule that a check gave, or four zeros.
-#[tactic(auto, unfolding(crate::specs::Checks::rule_in))]
-pub fn rule_in(checked: Checked) -> Rule
-    ensures { result ≡ rule_in checked }
-{
-    match checked {
-        Checked::Fine(rule) => rule,
-        Checked::Refused(_) => Rule {
-            states: 0,
-            initial: 0,
-            tree_start: 0,
-            letters: 0,
-        },
-    }
-}
+use crate::store::top_of;
+use levels::room;
+use meaning::{Level, Reading, Reason, Refusal};
+use rule::CheckedRule;
+use turning::settling::Settled;
 
 // Whether the stored states below the depth are all below n. Whoever asks has seen that the store is that deep.
 fn stored_in(levels: &[Level], depth: usize, states: u8) -> bool
@@ -43,11 +26,7 @@ fn skips_unsettled(book: &[u64], reading: Reading, top: Level) -> bool
     requires { BookServes book.now reading top }
     ensures { result ≡ (0 <? reading.skip && not (settled book.now reading top)) }
 {
-    if reading.skip == 0 {
-        return false;
-    }
-    let held = is_held(book, reading, top);
-    !is_settled(book, reading, held)
+    0 < reading.skip && !Settled::of(book, reading, top).is_settled()
 }
 
 // Whether the state or a stored one is not below n, or the depth is above the store's length. The store is looked into only where it
@@ -74,30 +53,26 @@ fn not_reading(states: u8, book: &[u64], reading: Reading, levels: &[Level]) -> 
     ensures { (R : format.Rule) → R.states ≡ states → result ≡ not_reading R book.now reading levels.now }
 {
     states_out(states, reading, levels)
-        || skips_unsettled(book, reading, level_at(levels, top_place(reading)))
+        || skips_unsettled(book, reading, top_of(reading, levels))
         || counts_out(reading)
 }
 
 // What feed and finish check first: the rule, 6, 13.
-pub fn admit(file: &[u8], book: &[u64], reading: Reading, levels: &[Level]) -> Checked
-    ensures { checked_says result ≡ reading_answer file.now book.now reading levels.now }
+pub fn admit<'a>(
+    file: &'a [u8],
+    book: &[u64],
+    reading: Reading,
+    levels: &[Level],
+) -> Result<CheckedRule<'a>, Refusal>
+    ensures admits { IfOk result (λ checked. (checked.file.now ≡ file.now) × (reading_answer file.now book.now reading levels.now ≡ given checked.rule)) }
+    ensures refuses { IfErr result (λ refusal. reading_answer file.now book.now reading levels.now ≡ refusal_says refusal) }
 {
-    match Rule::of_file(file) {
-        Checked::Refused(refusal) => Checked::Refused(refusal),
-        Checked::Fine(rule) => {
-            if book.len() <= rule.states as usize {
-                return Checked::Refused(Refusal {
-                    number: 6,
-                    place: 0,
-                });
-            }
-            if not_reading(rule.states, book, reading, levels) {
-                return Checked::Refused(Refusal {
-                    number: 13,
-                    place: 0,
-                });
-            }
-            Checked::Fine(rule)
-        }
+    let checked = CheckedRule::of_file(file)?;
+    if book.len() <= checked.rule.states as usize {
+        return Err(Reason::BookTooShort.at(0));
     }
+    if not_reading(checked.rule.states, book, reading, levels) {
+        return Err(Reason::NotAReading.at(0));
+    }
+    Ok(checked)
 }

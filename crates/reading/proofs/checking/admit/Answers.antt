@@ -1,32 +1,36 @@
 -- The rule, 6, 13: each by the law of the answer that it gives.
 use Rattle.std.proofs.Common.{sym, ◌∙◌, arith}
-use Rattle.meaning.specs.Calls.{refusal_says}
-use Rattle.rule.specs.Says.{checked_says}
-use Rattle.rule.proofs.Said.{refused-check}
-use Rattle.reading.proofs.Checks.{ruled-by, answer-rule, answer-short, answer-unread, answer-fine}
+use Rattle.std.proofs.lemmas.Result.{err_from_is_err_and}
+use Rattle.meaning.specs.Calls.{refusal_says, number_of}
+use Rattle.reading.proofs.Checks.{answer-rule, answer-short, answer-unread, answer-fine}
 use Rattle.turning.proofs.Turned.{states-are, few-states}
 use Rattle.reading.proofs.checking.admit.Goals as goal
 
+pub returns-in_err-checked-clause-refuses : goal.returns-in_err-checked-clause-refuses
+returns-in_err-checked-clause-refuses c =
+    let p = err_from_is_err_and c.from_residual.result c.from_residual.ensures.1 in
+    rw (p.1, p.2) (answer-rule c.args.file.now _ _ _ _ c.in_err-checked.ensures.refuses)
+
+pub returns-then-book-checked-clause-refuses : goal.returns-then-book-checked-clause-refuses
+unfolding refusal_says number_of
+returns-then-book-checked-clause-refuses c =
+    let h = rw c.in_ok-checked.ensures.accepts.0 at c.in_ok-checked.checked.accepted in
+    rw (c.at.ensures.number, c.at.ensures.place) (answer-short _ _ _ _ h (omega (arith, c.if-book-checked.true)))
+
 pub not_reading-requires-clause-few_states : goal.not_reading-requires-clause-few_states
-not_reading-requires-clause-few_states c = few-states (ruled-by c.args.file.now c.in-Fine.rule (rw c.in-Fine.is at c.of_file.ensures))
+not_reading-requires-clause-few_states c = few-states c.in_ok-checked.checked.accepted
 
-pub returns-in-Refused : goal.returns-in-Refused
-unfolding checked_says refusal_says
-returns-in-Refused c = sym (answer-rule _ _ _ _ (refused-check _ c.in-Refused.refusal (rw c.in-Refused.is at c.of_file.ensures)))
+pub returns-then-not_reading-clause-refuses : goal.returns-then-not_reading-clause-refuses
+unfolding refusal_says number_of
+returns-then-not_reading-clause-refuses c =
+    let h = rw c.in_ok-checked.ensures.accepts.0 at c.in_ok-checked.checked.accepted in
+    rw (c.at-then-not_reading.ensures.number, c.at-then-not_reading.ensures.place)
+    (answer-unread _ _ _ _ h (omega (arith, c.if-book-checked.false)) (sym (c.not_reading.ensures _ (states-are h)) ∙ c.if-not_reading.true))
 
-pub returns-then-book-rule : goal.returns-then-book-rule
-unfolding checked_says refusal_says
-returns-then-book-rule c =
-    sym (answer-short _ _ _ _ (ruled-by c.args.file.now c.in-Fine.rule (rw c.in-Fine.is at c.of_file.ensures)) (omega (arith, c.if-book-rule.true)))
-
-pub returns-then-not_reading : goal.returns-then-not_reading
-unfolding checked_says refusal_says
-returns-then-not_reading c =
-    let h = ruled-by c.args.file.now c.in-Fine.rule (rw c.in-Fine.is at c.of_file.ensures) in
-    sym (answer-unread _ _ _ _ h (omega (arith, c.if-book-rule.false)) (sym (c.not_reading.ensures _ (states-are h)) ∙ c.if-not_reading.true))
-
-pub returns-else-not_reading : goal.returns-else-not_reading
-unfolding checked_says
-returns-else-not_reading c =
-    let h = ruled-by c.args.file.now c.in-Fine.rule (rw c.in-Fine.is at c.of_file.ensures) in
-    sym (answer-fine _ _ _ _ h (omega (arith, c.if-book-rule.false)) (sym (c.not_reading.ensures _ (states-are h)) ∙ c.if-not_reading.false))
+pub returns-clause-admits : goal.returns-clause-admits
+returns-clause-admits c =
+    let accepts = c.in_ok-checked.ensures.accepts in
+    let h = rw accepts.0 at c.in_ok-checked.checked.accepted in (
+      accepts.0,
+      answer-fine _ _ _ _ h (omega (arith, c.if-book-checked.false)) (sym (c.not_reading.ensures _ (states-are h)) ∙ c.if-not_reading.false),
+    )

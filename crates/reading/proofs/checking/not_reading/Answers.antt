@@ -38,8 +38,7 @@ pub skips_unsettled-requires : goal.skips_unsettled-requires
 unfolding top_of
 skips_unsettled-requires c =
     let in_all = inside c.args.states c.args.reading c.args.levels.now (sym c.states_out.ensures ∙ c.if-states_out.false) in
-    let top = c.level_at.ensures ∙ ap (λ (i : ℕ). get_or c.args.levels.now i blank) c.top_place.ensures in
-    rw top
+    rw c.top_of.ensures
     (record {
       state_bit = omega (arith, c.requires.few_states, in_all.state_in);
       still_word = omega (arith, c.requires.long_book);
@@ -69,7 +68,7 @@ returns-then-skips_unsettled c R same =
           or-holds _ _ (sym c.states_out.ensures ∙ w.if-states_out.true) (w.value-is ∙ c.states_out.ensures)
       | else-states_out w ↦
           or-decides _ _ (sym c.states_out.ensures ∙ w.if-states_out.false)
-          (w.value-is ∙ rw (w.level_at.ensures, w.top_place.ensures) at w.skips_unsettled.ensures)
+          (w.value-is ∙ rw w.top_of.ensures at w.skips_unsettled.ensures)
     ]
     in
     holds-first (out_of n r store) (skips_unsettled book r store) (counts_of r) first c.if-skips_unsettled.true ∙ row R n book r store same
@@ -87,7 +86,7 @@ returns-else-skips_unsettled c R same =
           or-holds _ _ (sym c.states_out.ensures ∙ w.if-states_out.true) (w.value-is ∙ c.states_out.ensures)
       | else-states_out w ↦
           or-decides _ _ (sym c.states_out.ensures ∙ w.if-states_out.false)
-          (w.value-is ∙ rw (w.level_at.ensures, w.top_place.ensures) at w.skips_unsettled.ensures)
+          (w.value-is ∙ rw w.top_of.ensures at w.skips_unsettled.ensures)
     ]
     in
     decides-last (out_of n r store) (skips_unsettled book r store) (counts_of r) first c.if-skips_unsettled.false c.counts_out.ensures
