@@ -77,15 +77,7 @@ pub fn events_at(front: &[u8]) -> Front
 fn event_count(bytes: usize, places: usize) -> usize
     ensures { result ≡ event_count bytes places }
 {
-    let events = bytes / 2;
-    if events <= places { events } else { places }
-}
-
-// The event that two bytes stand for.
-fn event(low: u8, high: u8) -> u16
-    ensures { result ≡ low + 256 * high }
-{
-    low as u16 + (high as u16) * 256
+    (bytes / 2).min(places)
 }
 
 // The events that bytes hold, into the front of a lent slice; the rest stays. It answers their count.
@@ -95,10 +87,8 @@ pub fn decode(bytes: &[u8], events: &mut [u16]) -> usize
     ensures events { events.new ≡ decoded result bytes.now events.old }
 {
     let count = event_count(bytes.len(), events.len());
-    let mut i = 0;
-    while i < count {
-        events[i] = event(bytes[i * 2], bytes[i * 2 + 1]);
-        i += 1;
+    for (i, event) in events[..count].iter_mut().enumerate() {
+        *event = check::number2(bytes, i * 2);
     }
     count
 }
