@@ -73,20 +73,14 @@ pub fn events_at(front: &[u8]) -> Front
     }
 }
 
-// How many events so many bytes hold, two bytes each, and so many places take.
-fn event_count(bytes: usize, places: usize) -> usize
-    ensures { result ≡ event_count bytes places }
-{
-    (bytes / 2).min(places)
-}
-
-// The events that bytes hold, into the front of a lent slice; the rest stays. It answers their count.
+// The events that bytes hold, two bytes each, into the front of a lent slice, as many as find a slot; the rest stays. It answers
+// their count.
 pub fn decode(bytes: &[u8], events: &mut [u16]) -> usize
     ensures count { result ≡ event_count (length bytes.now) (length events.old) }
     ensures fits { result ≤ length events.old }
     ensures events { events.new ≡ decoded result bytes.now events.old }
 {
-    let count = event_count(bytes.len(), events.len());
+    let count = (bytes.len() / 2).min(events.len());
     for (i, event) in events[..count].iter_mut().enumerate() {
         *event = check::number2(bytes, i * 2);
     }

@@ -4,7 +4,7 @@ use Rattle.input.proofs.Pairs.{decode-more, decode-none, slots-decoded}
 use Rattle.input.proofs.decode.Goals as goal
 
 pub loop-i-init : goal.loop-i-init
-loop-i-init c = decode-none c.args.bytes.now (take c.event_count-count.result c.args.events.now)
+loop-i-init c = decode-none c.args.bytes.now (take c.min-count.result c.args.events.now)
 
 pub number2-requires : goal.number2-requires
 number2-requires c = omega (arith, length-take {A = ℕ})
@@ -12,10 +12,10 @@ number2-requires c = omega (arith, length-take {A = ℕ})
 pub loop-i-preserved : goal.loop-i-preserved
 loop-i-preserved c =
     rw (c.loop-i.invariant, c.number2.ensures)
-    (decode-more c.loop-i.i c.args.bytes.now (take c.event_count-count.result c.args.events.now) (omega (arith, length-take {A = ℕ})) (omega arith))
+    (decode-more c.loop-i.i c.args.bytes.now (take c.min-count.result c.args.events.now) (omega (arith, length-take {A = ℕ})) (omega arith))
 
 pub returns-clause-events : goal.returns-clause-events
 returns-clause-events c =
-    let count = c.event_count-count.result in
+    let count = c.min-count.result in
     ap (λ (l : List ℕ). l ++ drop count c.args.events.now) c.loop-i.invariant
     ∙ slots-decoded c.loop-i.i count c.args.bytes.now c.args.events.now (omega arith) (omega arith) (omega arith)
