@@ -6,13 +6,11 @@ ghost use Rattle.meaning.specs.RuleFile.{header_length, rule_of, check_rule};
 ghost use Rattle.meaning.specs.FullReading.{fresh_reading};
 ghost use Rattle.meaning.specs.CheckProgram.{front_length, front_check, events_in, line_bytes, rule_word, printed};
 ghost use Rattle.program.specs.Passes.{pass_says, fed_on};
-ghost use Rattle.program.specs.Texts.{text_says, InRoom};
 ghost use Rattle.program.specs.Bodies.{program_book, zero_book, block_length, Carried, Took, HasRead, both_lines};
 
-use crate::lines::{line, refusal};
 use crate::passes;
 use crate::passes::{Pass, end_of, go_on};
-use crate::text::{Text, empty, word};
+use crate::text::Text;
 use meaning::{Reading, Refusal};
 use rule::tables::HEADER;
 
@@ -149,32 +147,31 @@ pub fn take(file: &[u8], book: &[u64], size: u32, body: Body, block: &[u8]) -> B
 
 // The line of a bad rule or record.
 pub fn refused_text(r: Refusal) -> Text
-    ensures in_room { InRoom result }
-    ensures says_line { text_says result ≡ line_bytes rule_word (refused r.number r.place) }
-    ensures says_printed { (input : List ℕ) → front_check (take front_length input) ≡ refusal_says r → text_says result ≡ printed input }
+    ensures says_line { result ≡ line_bytes rule_word (refused r.number r.place) }
+    ensures says_printed { (input : List ℕ) → front_check (take front_length input) ≡ refusal_says r → result ≡ printed input }
 {
-    let start = empty();
-    let named = word(start, b"rule");
-    refusal(named, r)
+    let mut text = Text::empty();
+    text.word(b"rule");
+    text.refusal(r);
+    text
 }
 
 // The two lines.
 fn both_lines(file: &[u8], book: &[u64], both: Both) -> Text
-    ensures in_room { InRoom result }
-    ensures says_lines { text_says result ≡ both_lines file.now book.now (pass_says both.skip) (pass_says both.full) }
+    ensures { result ≡ both_lines file.now book.now (pass_says both.skip) (pass_says both.full) }
 {
     let zero = zeros();
     let skip = both.skip;
     let full = both.full;
-    let start = empty();
-    let first = line(start, b"skip", end_of(file, book, skip), skip.reading);
-    line(first, b"full", end_of(file, &zero, full), full.reading)
+    let mut text = Text::empty();
+    text.line(b"skip", end_of(file, book, skip), skip.reading);
+    text.line(b"full", end_of(file, &zero, full), full.reading);
+    text
 }
 
 // What is printed where the input ends, or where bytes came after the record.
 pub fn text(file: &[u8], book: &[u64], size: u32, body: Body) -> Text
-    ensures in_room { InRoom result }
-    ensures says_printed { (input bytes rest : List ℕ) → HasRead file.now book.now size body input bytes rest → text_says result ≡ printed input }
+    ensures { (input bytes rest : List ℕ) → HasRead file.now book.now size body input bytes rest → result ≡ printed input }
 {
     let start = file.len() + HEADER;
     let taken = body.taken;

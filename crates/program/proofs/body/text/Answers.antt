@@ -7,15 +7,15 @@ use Rattle.program.specs.Bodies.{both_lines}
 use Rattle.program.proofs.Prints.{after-prints, cut-prints, both-print}
 use Rattle.program.proofs.body.text.Goals as goal
 
-pub returns-then-body-clause-says_printed : goal.returns-then-body-clause-says_printed
-returns-then-body-clause-says_printed c =
+pub returns-then-body : goal.returns-then-body
+returns-then-body c =
     let a = c.args in
     λ input bytes rest read.
     c.refused_text.ensures.says_line
     ∙ after-prints a.file.now a.book.now a.size a.body input bytes rest read (read.took.when_after c.if-body.true)
 
-pub returns-then-taken-whole-clause-says_printed : goal.returns-then-taken-whole-clause-says_printed
-returns-then-taken-whole-clause-says_printed c =
+pub returns-then-taken-whole : goal.returns-then-taken-whole
+returns-then-taken-whole c =
     let a = c.args in
     λ input bytes rest read.
     let within = read.took.while_within c.if-body.false in
@@ -24,13 +24,13 @@ returns-then-taken-whole-clause-says_printed c =
     ∙ (ap (λ n. line_bytes rule_word (refused 1 (length a.file.now + 6 + n))) within.taken_is
     ∙ cut-prints a.file.now a.book.now a.size a.body input bytes rest read (read.all_read c.if-body.false) less)
 
-pub returns-clause-says_printed : goal.returns-clause-says_printed
-returns-clause-says_printed c =
+pub returns : goal.returns
+returns c =
     let a = c.args in
     λ input bytes rest read.
     let within = read.took.while_within c.if-body.false in
     let all : length bytes ≡ a.size = omega (arith, within.taken_is, within.in_record, c.if-taken-whole.false) in
-    c.both_lines.ensures.says_lines
+    c.both_lines.ensures
     ∙ (ap (λ w. both_lines a.file.now a.book.now w (pass_says a.body.both.full)) within.skip_is
     ∙ (ap (λ w. both_lines a.file.now a.book.now (program_fed a.file.now a.book.now (events_in bytes)) w) within.full_is
     ∙ both-print a.file.now a.book.now a.size a.body input bytes rest read (read.all_read c.if-body.false) all))

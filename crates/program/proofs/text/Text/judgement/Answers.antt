@@ -2,10 +2,10 @@
 use Rattle.meaning.specs.CheckProgram.{line_end, line_bytes}
 use Rattle.program.specs.Texts.{line_of, judged_line}
 use Rattle.program.proofs.Laying.{lays-then}
-use Rattle.program.proofs.lines.judgement.Goals as goal
+use Rattle.program.proofs.text.Text.judgement.Goals as goal
 
 pub returns : goal.returns
 unfolding line_end line_bytes line_of judged_line
 returns c =
-    lays-then c.verdict-said.ensures
-    (lays-then c.spaced-state.ensures (lays-then c.spaced-events.ensures (lays-then c.spaced-looks.ensures c.put.ensures)))
+    lays-then c.verdict.ensures
+    (lays-then c.spaced.ensures (lays-then c.spaced-2.ensures (lays-then c.spaced-3.ensures c.put.ensures)))

@@ -2,7 +2,7 @@
 use Rattle.std.proofs.Common.{◌∙◌, rules}
 use Rattle.program.proofs.Laying.{lays-same}
 use Rattle.program.proofs.Decimals.{decimal-digits}
-use Rattle.program.proofs.text.number.Goals as goal
+use Rattle.program.proofs.text.Text.number.Goals as goal
 
 pub returns : goal.returns
 returns c =
