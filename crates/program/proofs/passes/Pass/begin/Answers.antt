@@ -3,7 +3,7 @@ use Rattle.std.proofs.Common.{[], refl, ◌∙◌, ap}
 use Rattle.meaning.specs.Calls.{feed_call, feeding_says, largest_ceiling}
 use Rattle.program.specs.Passes.{pass_says}
 use Rattle.program.proofs.Feeds.{on-given}
-use Rattle.program.proofs.passes.begin.Goals as goal
+use Rattle.program.proofs.passes.Pass.begin.Goals as goal
 
 pub returns : goal.returns
 unfolding pass_says feeding_says

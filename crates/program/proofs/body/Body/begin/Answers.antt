@@ -6,7 +6,7 @@ use Rattle.meaning.specs.declared.Reading.{Reading}
 use Rattle.meaning.specs.CheckProgram.{program_levels, program_fed, events_in}
 use Rattle.program.specs.Bodies.{zero_book}
 use Rattle.program.proofs.Blocks.{not-both}
-use Rattle.program.proofs.body.begin.Goals as goal
+use Rattle.program.proofs.body.Body.begin.Goals as goal
 
 pub returns : goal.returns
 unfolding events_in program_fed
@@ -19,8 +19,8 @@ returns c =
           record {
             taken_is = refl;
             in_record = omega arith;
-            skip_is = c.begin-skip.ensures ∙ ap (fed a.book.now) fresh;
-            full_is = c.begin-full.ensures ∙ (ap (λ z. fed z a.first) c.zeros-zero.ensures.zeros ∙ ap (fed zero_book) fresh);
+            skip_is = c.begin.ensures ∙ ap (fed a.book.now) fresh;
+            full_is = c.begin-2.ensures ∙ (ap (λ z. fed z a.first) c.zeros.ensures.zeros ∙ ap (fed zero_book) fresh);
           };
-      when_after = λ e. absurd (not-both e refl);
+      when_after = λ e. absurd (not-both refl e);
     }
