@@ -20,18 +20,6 @@ pub struct Pass {
     pub levels: [Level; LEVELS],
 }
 
-// Levels that hold nothing.
-#[tactic(auto, unfolding(meaning::specs::FullReading::blank))]
-fn no_levels() -> [Level; LEVELS]
-    ensures { result ≡ replicate program_levels blank }
-{
-    let none = Level {
-        above: 0,
-        opened: 0,
-    };
-    [none; LEVELS]
-}
-
 impl Pass {
     // Before the first event: a feed of none, from the reading that opening gave.
     pub fn begin(file: &[u8], book: &[u64], first: Reading) -> Pass
@@ -40,7 +28,7 @@ impl Pass {
         let mut pass = Pass {
             reading: first,
             ended: Feeding::AllTaken,
-            levels: no_levels(),
+            levels: [Level { above: 0, opened: 0 }; LEVELS],
         };
         pass.go_on(file, book, &[]);
         pass

@@ -3,6 +3,7 @@ ghost use Rattle.std.specs.Prelude.{◌≡◌, ◌≤◌, [], ◌∷◌, length}
 ghost use Rattle.meaning.specs.CheckProgram.{decimal};
 ghost use Rattle.program.specs.Texts.{Lays};
 
+use itoa::Buffer;
 use std::marker::Model;
 
 // The bytes that a text has room for.
@@ -67,8 +68,6 @@ impl Text {
     pub(crate) fn number(&mut self, n: u64)
         ensures { Lays self.old (decimal n) self.new }
     {
-        let mut digits = [0u8; 20];
-        let count = io::decimal(n, &mut digits);
-        self.word(&digits[..count]);
+        self.word(Buffer::new().format(n).as_bytes());
     }
 }

@@ -1,14 +1,13 @@
 -- No event, from the first reading over levels that hold nothing.
-use Rattle.std.proofs.Common.{[], refl, ◌∙◌, ap}
-use Rattle.meaning.specs.Calls.{feed_call, feeding_says, largest_ceiling}
+use Rattle.std.proofs.Common.{[], refl, ◌∙◌}
+use Rattle.meaning.specs.FullReading.{blank}
+use Rattle.meaning.specs.Calls.{feeding_says}
 use Rattle.program.specs.Passes.{pass_says}
 use Rattle.program.proofs.Feeds.{on-given}
 use Rattle.program.proofs.passes.Pass.begin.Goals as goal
 
 pub returns : goal.returns
-unfolding pass_says feeding_says
+unfolding pass_says feeding_says blank
 returns c =
     let a = c.args in
-    c.go_on.ensures
-    ∙ (on-given a.file.now a.book.now _ [] refl
-    ∙ ap (λ l. feed_call a.file.now a.book.now largest_ceiling a.first l []) c.no_levels.ensures)
+    c.go_on.ensures ∙ on-given a.file.now a.book.now _ [] refl
