@@ -13,10 +13,7 @@ use Rattle.input.proofs.Pairs.{count-all, events-length}
 use Rattle.program.specs.declared.body.Body.{Body}
 use Rattle.program.specs.Passes.{pass_says, fed_on}
 use Rattle.program.specs.Bodies.{block_length, zero_book, Took, Carried}
-use Rattle.program.proofs.Feeds.{fed-more}
-
-pub not-both : {b : Bool} → b ≡ true → b ≡ false → ⊥
-not-both e f = let z : ◌≡◌ {A = ℕ} 0 1 = cc in omega arith
+use Rattle.program.proofs.Feeds.{fed-more, not-both}
 
 -- ---- the events of bytes
 

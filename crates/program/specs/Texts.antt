@@ -1,11 +1,11 @@
 -- Bytes laid into a text, and the line of a reading.
-use Rattle.std.specs.Prelude.{ℕ, ◌≡◌, List, ◌++◌, take}
+use Rattle.std.specs.Prelude.{ℕ, ◌≡◌, List, ◌++◌, take, Result}
 use Rattle.meaning.specs.Answers.{Answer, given, ◌giving◌}
 use Rattle.meaning.specs.Calls.{Judged, verdict_says, end_says}
 use Rattle.meaning.specs.CheckProgram.{Line}
-use Rattle.meaning.specs.declared.End.{End}
 use Rattle.meaning.specs.declared.Judgement.{Judgement}
 use Rattle.meaning.specs.declared.Reading.{Reading}
+use Rattle.meaning.specs.declared.Refusal.{Refusal}
 
 -- the bytes that a text has room for
 abbrev pub text_room : ℕ
@@ -28,5 +28,5 @@ line_of r j = given (record { class = j.class; state = j.state; events = r.taken
 unfoldable pub judged_line : Judgement → Reading → Answer Line
 judged_line j r = line_of r (record { class = verdict_says j.verdict; state = j.state })
 
-unfoldable pub line_says : End → Reading → Answer Line
+unfoldable pub line_says : Result Judgement Refusal → Reading → Answer Line
 line_says e r = end_says e giving line_of r

@@ -10,7 +10,7 @@ ghost use Rattle.program.specs.Bodies.{program_book, zero_book, block_length, Ca
 
 use crate::passes::Pass;
 use crate::text::Text;
-use meaning::{Reading, Refusal};
+use meaning::{Reading, Reason, Refusal};
 use rule::tables::HEADER;
 
 // The bytes of a block, the events that they hold, and the words of the longest book.
@@ -141,14 +141,8 @@ impl Document<'_> {
         let start = self.file.len() + HEADER;
         let whole = self.size as usize;
         match body.taken {
-            None => refused_text(Refusal {
-                number: 5,
-                place: start + whole,
-            }),
-            Some(taken) if taken < whole => refused_text(Refusal {
-                number: 1,
-                place: start + taken,
-            }),
+            None => refused_text(Reason::BytesAfter.at(start + whole)),
+            Some(taken) if taken < whole => refused_text(Reason::CutShort.at(start + taken)),
             Some(_) => body.both.lines(self.file, self.book),
         }
     }

@@ -6,7 +6,7 @@ ghost use Rattle.meaning.specs.CheckProgram.{spaced, class_word, line_bytes};
 ghost use Rattle.program.specs.Texts.{Lays, line_says, judged_line};
 
 use crate::text::Text;
-use meaning::{End, Judgement, Reading, Refusal, Verdict};
+use meaning::{Judgement, Reading, Refusal, Verdict};
 
 impl Text {
     // A space, and a number.
@@ -51,13 +51,13 @@ impl Text {
     }
 
     // The line of one reading.
-    pub(crate) fn line(&mut self, name: &[u8], end: End, reading: Reading)
+    pub(crate) fn line(&mut self, name: &[u8], end: Result<Judgement, Refusal>, reading: Reading)
         ensures { Lays self.old (line_bytes name.now (line_says end reading)) self.new }
     {
         self.word(name);
         match end {
-            End::Judged(j) => self.judgement(j, reading),
-            End::Refused(r) => self.refusal(r),
+            Ok(j) => self.judgement(j, reading),
+            Err(r) => self.refusal(r),
         }
     }
 }

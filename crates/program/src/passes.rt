@@ -5,10 +5,10 @@ ghost use Rattle.meaning.specs.Calls.{end_says, feed_call, finish_fed, largest_c
 ghost use Rattle.meaning.specs.CheckProgram.{program_levels};
 ghost use Rattle.program.specs.Passes.{pass_says, fed_on};
 
-use meaning::{End, Feeding, Level, Reading};
+use meaning::{Judgement, Level, Reading, Refusal};
 
 // The largest ceiling, and the levels of a pass.
-const CEILING: u32 = 0xffff_ffff;
+const CEILING: u32 = u32::MAX;
 
 const LEVELS: usize = 1024;
 
@@ -16,7 +16,7 @@ const LEVELS: usize = 1024;
 #[derive(Clone, Copy)]
 pub struct Pass {
     pub reading: Reading,
-    pub ended: Feeding,
+    pub ended: Result<(), Refusal>,
     pub levels: [Level; LEVELS],
 }
 
@@ -27,8 +27,8 @@ impl Pass {
     {
         let mut pass = Pass {
             reading: first,
-            ended: Feeding::AllTaken,
-            levels: [Level { above: 0, opened: 0 }; LEVELS],
+            ended: Ok(()),
+            levels: [Level::default(); LEVELS],
         };
         pass.go_on(file, book, &[]);
         pass
@@ -38,7 +38,7 @@ impl Pass {
     pub fn go_on(&mut self, file: &[u8], book: &[u64], events: &[u16])
         ensures { pass_says self.new ≡ fed_on file.now book.now (pass_says self.old) events.now }
     {
-        if let Feeding::AllTaken = self.ended {
+        if self.ended.is_ok() {
             let fed = reading::feed(file, book, CEILING, self.reading, &mut self.levels, events);
             self.reading = fed.reading;
             self.ended = fed.ended;
@@ -46,12 +46,10 @@ impl Pass {
     }
 
     // After the last event.
-    pub fn end_of(&self, file: &[u8], book: &[u64]) -> End
+    pub fn end_of(&self, file: &[u8], book: &[u64]) -> Result<Judgement, Refusal>
         ensures { end_says result ≡ finish_fed file.now book.now (pass_says self.now) }
     {
-        match self.ended {
-            Feeding::Refused(refusal) => End::Refused(refusal),
-            Feeding::AllTaken => reading::finish(file, book, self.reading, &self.levels),
-        }
+        self.ended?;
+        reading::finish(file, book, self.reading, &self.levels)
     }
 }

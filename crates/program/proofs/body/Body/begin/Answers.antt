@@ -5,7 +5,7 @@ use Rattle.meaning.specs.Calls.{Stored, feed_call, largest_ceiling}
 use Rattle.meaning.specs.declared.Reading.{Reading}
 use Rattle.meaning.specs.CheckProgram.{program_levels, program_fed, events_in}
 use Rattle.program.specs.Bodies.{zero_book}
-use Rattle.program.proofs.Blocks.{not-both}
+use Rattle.program.proofs.Feeds.{not-both}
 use Rattle.program.proofs.body.Body.begin.Goals as goal
 
 pub returns : goal.returns

@@ -6,10 +6,10 @@ use Rattle.program.specs.Texts.{line_of, judged_line, line_says}
 use Rattle.program.proofs.Laying.{lays-then}
 use Rattle.program.proofs.text.Text.line.Goals as goal
 
-pub returns-in-Judged : goal.returns-in-Judged
+pub returns-in-Ok : goal.returns-in-Ok
 unfolding end_says line_bytes line_of judged_line line_says ◌giving◌
-returns-in-Judged c = rw c.in-Judged.is (lays-then c.word.ensures c.judgement.ensures)
+returns-in-Ok c = rw c.in-Ok.is (lays-then c.word.ensures c.judgement.ensures)
 
-pub returns-in-Refused : goal.returns-in-Refused
+pub returns-in-Err : goal.returns-in-Err
 unfolding end_says refusal_says line_bytes line_of line_says ◌giving◌
-returns-in-Refused c = rw c.in-Refused.is (lays-then c.word.ensures c.refusal.ensures)
+returns-in-Err c = rw c.in-Err.is (lays-then c.word.ensures c.refusal.ensures)
