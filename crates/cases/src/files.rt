@@ -7,42 +7,39 @@ use std::io;
 // Rule A with one byte changed.
 fn changed(place: usize, byte: u8) -> [u8; 47] {
     let mut file = rule_a();
-    if place < 47 {
-        file[place] = byte;
+    if let Some(old) = file.get_mut(place) {
+        *old = byte;
     }
     file
 }
 
-fn check_changed(rt: &impl Print, name: &str, place: usize, byte: u8) -> io::Result<()> {
-    let file = changed(place, byte);
-    lines::checked(rt, name, Rule::of_file(&file))
-}
-
-// So many bytes of a file.
-fn check_front(rt: &impl Print, name: &str, file: &[u8], count: usize) -> io::Result<()> {
-    if count <= file.len() {
-        lines::checked(rt, name, Rule::of_file(&file[0..count]))?;
-    }
-    Ok(())
-}
-
 pub fn rule_checks(rt: &impl Print) -> io::Result<()> {
     let file = rule_a();
-    check_front(rt, "rule A", &file, 47)?;
-    check_front(rt, "an empty file", &file, 0)?;
-    check_front(rt, "a header cut short", &file, 14)?;
-    check_front(rt, "a body cut short", &file, 20)?;
-    check_changed(rt, "another kind", 15, 3)?;
-    check_changed(rt, "another length", 11, 7)?;
-    check_changed(rt, "65 states", 6, 65)?;
-    check_changed(rt, "no state", 6, 0)?;
-    check_changed(rt, "an initial state of n", 7, 3)?;
-    check_changed(rt, "a tree start of n", 8, 3)?;
-    check_changed(rt, "no letter", 9, 0)?;
-    check_changed(rt, "257 letters", 10, 1)?;
-    check_changed(rt, "a letter move of n", 18, 3)?;
-    check_changed(rt, "a tree move of n", 30, 3)?;
-    check_changed(rt, "a class of none", 45, 255)?;
+    let fronts = [
+        ("rule A", &file[..]),
+        ("an empty file", &[]),
+        ("a header cut short", &file[..14]),
+        ("a body cut short", &file[..20]),
+    ];
+    for (name, front) in fronts {
+        lines::checked(rt, name, Rule::of_file(front))?;
+    }
+    let changes = [
+        ("another kind", 15, 3),
+        ("another length", 11, 7),
+        ("65 states", 6, 65),
+        ("no state", 6, 0),
+        ("an initial state of n", 7, 3),
+        ("a tree start of n", 8, 3),
+        ("no letter", 9, 0),
+        ("257 letters", 10, 1),
+        ("a letter move of n", 18, 3),
+        ("a tree move of n", 30, 3),
+        ("a class of none", 45, 255),
+    ];
+    for (name, place, byte) in changes {
+        lines::checked(rt, name, Rule::of_file(&changed(place, byte)))?;
+    }
     let longer = longer_a();
     lines::checked(rt, "a byte after the fourth record", Rule::of_file(&longer))
 }
@@ -137,37 +134,26 @@ pub fn writings(rt: &impl Print) -> io::Result<()> {
     lines::checked(rt, "what was written", Rule::of_file(&enough))
 }
 
-// So many bytes of a file opened. The book is lent full of sevens: what is not written stays.
-pub fn open(rt: &impl Print, name: &str, file: &[u8], count: usize) -> io::Result<()> {
-    let mut book = [7u64; 4];
-    if count <= file.len() {
-        let answer = reading::open(&file[0..count], &mut book);
-        lines::opened(rt, name, answer, book)?;
-    }
-    Ok(())
+// A file opened. The book is lent full of sevens: what is not written stays.
+pub fn open(rt: &impl Print, name: &str, file: &[u8]) -> io::Result<()> {
+    let mut book = [7; 4];
+    let answer = reading::open(file, &mut book);
+    lines::opened(rt, name, answer, book)
 }
 
 pub fn openings(rt: &impl Print) -> io::Result<()> {
-    let a = rule_a();
-    let b = rule_b();
-    let c = rule_c();
-    open(rt, "rule A opened", &a, 47)?;
-    open(rt, "rule B opened", &b, 44)?;
-    open(rt, "rule C opened", &c, 44)?;
-    open(rt, "another initial state opened", &changed(7, 1), 47)?;
-    open(rt, "one state opened", &rule_of_one(), 32)?;
-    open(rt, "no moves opened", &rule_of_none(), 44)
+    open(rt, "rule A opened", &rule_a())?;
+    open(rt, "rule B opened", &rule_b())?;
+    open(rt, "rule C opened", &rule_c())?;
+    open(rt, "another initial state opened", &changed(7, 1))?;
+    open(rt, "one state opened", &rule_of_one())?;
+    open(rt, "no moves opened", &rule_of_none())
 }
 
 pub fn unopened(rt: &impl Print) -> io::Result<()> {
     let a = rule_a();
-    open(rt, "a cut file opened", &a, 46)?;
-    let mut short = [7u64; 3];
-    let answer = reading::open(&a, &mut short);
-    lines::opened(
-        rt,
-        "a book of three words",
-        answer,
-        [short[0], short[1], short[2], 7],
-    )
+    open(rt, "a cut file opened", &a[0..46])?;
+    let mut book = [7; 4];
+    let answer = reading::open(&a, &mut book[..3]);
+    lines::opened(rt, "a book of three words", answer, book)
 }

@@ -4,7 +4,7 @@
 use crate::lines;
 use meaning::Opened;
 use rule::{Rule, writer};
-use std::io;
+use std::{array, io};
 
 const LETTER_MOVES: usize = 16384;
 
@@ -17,27 +17,6 @@ const LONGEST: usize = 20573;
 // The next state, and a state of its own for the last one.
 fn next_of(state: usize, last: u8) -> u8 {
     if state < 63 { state as u8 + 1 } else { last }
-}
-
-// What stands at a place of the letter moves, a row for each state; and of the tree moves, where only a state with itself as
-// lower state has a move, and the last one goes back.
-fn move_at(place: usize, of_letters: bool) -> u8 {
-    if of_letters {
-        return next_of(place / 256, 63);
-    }
-    if place % 65 == 0 {
-        return next_of(place / 65, 62);
-    }
-    255
-}
-
-// A table that leads from each state to the next.
-fn next_states(moves: &mut [u8], of_letters: bool) {
-    let mut i = 0;
-    while i < moves.len() {
-        moves[i] = move_at(i, of_letters);
-        i += 1;
-    }
 }
 
 fn book_of(rt: &impl Print, name: &str, file: &[u8]) -> io::Result<()> {
@@ -55,8 +34,8 @@ fn book_of(rt: &impl Print, name: &str, file: &[u8]) -> io::Result<()> {
 }
 
 pub fn letters(rt: &impl Print) -> io::Result<()> {
-    let mut moves = [0u8; LETTER_MOVES];
-    next_states(&mut moves, true);
+    // a row for each state
+    let moves: [u8; LETTER_MOVES] = array::from_fn(|place| next_of(place / 256, 63));
     let trees = [255u8; TREE_MOVES];
     let classes = [2u8; STATES];
     let mut file = [0u8; LONGEST];
@@ -68,8 +47,14 @@ pub fn letters(rt: &impl Print) -> io::Result<()> {
 
 pub fn trees(rt: &impl Print) -> io::Result<()> {
     let moves = [255u8; LETTER_MOVES];
-    let mut trees = [0u8; TREE_MOVES];
-    next_states(&mut trees, false);
+    // only a state with itself as lower state has a move, and the last one goes back
+    let trees: [u8; TREE_MOVES] = array::from_fn(|place| {
+        if place % 65 == 0 {
+            next_of(place / 65, 62)
+        } else {
+            255
+        }
+    });
     let classes = [2u8; STATES];
     let mut file = [0u8; LONGEST];
     let answer = writer::write(64, 0, 0, 256, &moves, &trees, &classes, &mut file);

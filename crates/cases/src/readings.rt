@@ -1,103 +1,157 @@
 // Readings that are none, and the limits of a reading: numbers 6, 13, 16 and 12.
-use crate::documents::{MOST, book_a};
+use crate::documents::book_a;
+use crate::lines;
 use crate::rules::rule_a;
-use crate::{lines, stores};
+use crate::stores::{Case, ENOUGH, NO_LEVEL};
 use meaning::{Level, Reading};
 use std::io;
 
-fn reading_at(state: u8, depth: u32, skip: u32, taken: u32, looks: u32) -> Reading {
-    Reading {
-        state,
-        depth,
-        skip,
-        taken,
-        looks,
-    }
-}
-
-// One event fed to a reading over levels with a state above them, by some book.
-fn feed_with(
-    rt: &impl Print,
-    name: &str,
-    reading: Reading,
-    above: u8,
-    book: &[u64],
-) -> io::Result<()> {
-    let file = rule_a();
-    let levels = [Level { above, opened: 0 }; 1024];
-    let outcome = stores::over_many(&file, book, MOST, reading, levels, &[2]);
-    lines::fed(rt, name, outcome.fed)
-}
-
-// The same by rule A's own book.
-fn feed_one(rt: &impl Print, name: &str, reading: Reading, above: u8) -> io::Result<()> {
-    let book = book_a();
-    feed_with(rt, name, reading, above, &book)
-}
-
-// The same over two levels.
-fn feed_over_two(rt: &impl Print, name: &str, reading: Reading) -> io::Result<()> {
-    let file = rule_a();
-    let book = book_a();
-    let levels = [stores::blank(); 2];
-    let outcome = stores::over_two(&file, &book, MOST, reading, levels, &[2]);
-    lines::fed(rt, name, outcome.fed)
-}
+// A reading in state 0 at the top, before any event.
+const FRESH: Reading = Reading {
+    state: 0,
+    depth: 0,
+    skip: 0,
+    taken: 0,
+    looks: 0,
+};
 
 // The end of a reading whose second level was opened at another place than the rest.
 fn finish_at(rt: &impl Print, name: &str, reading: Reading, opened: u32) -> io::Result<()> {
-    let file = rule_a();
-    let book = book_a();
     let mut levels = [Level {
         above: 0,
         opened: 9,
     }; 1024];
-    levels[1] = Level { above: 0, opened };
+    levels[1].opened = opened;
     lines::end(
         rt,
         name,
-        reading::finish_array(&file, &book, reading, levels),
+        reading::finish_array(&rule_a(), &book_a(), reading, levels),
         reading.looks,
     )
 }
 
+// One event fed.
+fn feedings(rt: &impl Print) -> io::Result<()> {
+    let file = rule_a();
+    let book = book_a();
+    let one = Case {
+        reading: FRESH,
+        events: &[2],
+        ..Case::opened(&file, &book)
+    };
+    one.named("a fresh reading").tell_fed(rt, ENOUGH)?;
+    let short = Case {
+        book: &[0; 3],
+        ..one
+    };
+    short
+        .named("a book too short to read with")
+        .tell_fed(rt, ENOUGH)?;
+    let out = Case {
+        reading: Reading { state: 3, ..FRESH },
+        ..one
+    };
+    out.named("a state of n").tell_fed(rt, ENOUGH)?;
+    let deep = Case {
+        reading: Reading {
+            depth: 3,
+            taken: 3,
+            looks: 3,
+            ..FRESH
+        },
+        ..one
+    };
+    deep.named("three levels in a store of two")
+        .tell_fed(rt, [NO_LEVEL; 2])?;
+    let stored = Case {
+        reading: Reading {
+            depth: 1,
+            taken: 1,
+            looks: 1,
+            ..FRESH
+        },
+        ..one
+    };
+    stored.named("a stored state of n").tell_fed(
+        rt,
+        [Level {
+            above: 3,
+            opened: 0,
+        }; 1024],
+    )?;
+    let readings = [
+        (
+            "skipping on an unsettled level",
+            Reading {
+                skip: 1,
+                taken: 1,
+                looks: 1,
+                ..FRESH
+            },
+        ),
+        ("more levels than events", Reading { depth: 1, ..FRESH }),
+        (
+            "more looks than events",
+            Reading {
+                taken: 1,
+                looks: 2,
+                ..FRESH
+            },
+        ),
+        (
+            "the last event but one",
+            Reading {
+                taken: 0xffff_fffe,
+                ..FRESH
+            },
+        ),
+        (
+            "all events taken already",
+            Reading {
+                taken: 0xffff_ffff,
+                ..FRESH
+            },
+        ),
+    ];
+    for (name, reading) in readings {
+        let case = Case {
+            name,
+            reading,
+            ..one
+        };
+        case.tell_fed(rt, ENOUGH)?;
+    }
+    Ok(())
+}
+
 pub fn refusals(rt: &impl Print) -> io::Result<()> {
-    feed_one(rt, "a fresh reading", reading_at(0, 0, 0, 0, 0), 0)?;
-    feed_with(
+    feedings(rt)?;
+    finish_at(
         rt,
-        "a book too short to read with",
-        reading_at(0, 0, 0, 0, 0),
-        0,
-        &[0, 0, 0],
+        "the innermost opening",
+        Reading {
+            depth: 2,
+            taken: 20,
+            looks: 20,
+            ..FRESH
+        },
+        11,
     )?;
-    feed_one(rt, "a state of n", reading_at(3, 0, 0, 0, 0), 0)?;
-    feed_over_two(
+    finish_at(
         rt,
-        "three levels in a store of two",
-        reading_at(0, 3, 0, 3, 3),
-    )?;
-    feed_one(rt, "a stored state of n", reading_at(0, 1, 0, 1, 1), 3)?;
-    feed_one(
-        rt,
-        "skipping on an unsettled level",
-        reading_at(0, 0, 1, 1, 1),
+        "a state of n at the end",
+        Reading { state: 3, ..FRESH },
         0,
     )?;
-    feed_one(rt, "more levels than events", reading_at(0, 1, 0, 0, 0), 0)?;
-    feed_one(rt, "more looks than events", reading_at(0, 0, 0, 1, 2), 0)?;
-    feed_one(
+    finish_at(
         rt,
-        "the last event but one",
-        reading_at(0, 0, 0, 0xffff_fffe, 0),
+        "an end",
+        Reading {
+            state: 2,
+            taken: 3,
+            looks: 3,
+            ..FRESH
+        },
         0,
-    )?;
-    feed_one(
-        rt,
-        "all events taken already",
-        reading_at(0, 0, 0, 0xffff_ffff, 0),
-        0,
-    )?;
-    finish_at(rt, "the innermost opening", reading_at(0, 2, 0, 20, 20), 11)?;
-    finish_at(rt, "a state of n at the end", reading_at(3, 0, 0, 0, 0), 0)?;
-    finish_at(rt, "an end", reading_at(2, 0, 0, 3, 3), 0)
+    )
 }

@@ -1,8 +1,22 @@
-// A reading fed and then finished over levels held by value: over one level, over two, and over room for any case. The three
-// have one contract; the first two lend their levels.
+// A case of a reading: what it hands the calls, which are made over levels held by value, so many as the case needs.
 ghost use Rattle.cases.specs.Stores.{OutcomeIs};
 
-use meaning::{End, Fed, Level, Reading};
+use crate::documents::first_of;
+use crate::lines;
+use meaning::{End, Fed, Feeding, Level, Reading};
+use std::io;
+
+// The largest ceiling.
+const MOST: u32 = 0xffff_ffff;
+
+// A record of no level.
+pub const NO_LEVEL: Level = Level {
+    above: 0,
+    opened: 0,
+};
+
+// Levels enough for a case in which their count decides nothing.
+pub const ENOUGH: [Level; 1024] = [NO_LEVEL; 1024];
 
 // What feed answered, and finish after it over the same levels.
 #[derive(Clone, Copy)]
@@ -11,62 +25,62 @@ pub struct Outcome {
     pub end: End,
 }
 
-// A record of no level.
-pub fn blank() -> Level {
-    Level {
-        above: 0,
-        opened: 0,
+// The name of a case, and what its calls are handed but for the levels.
+#[derive(Clone, Copy)]
+pub struct Case<'a> {
+    pub name: &'a str,
+    pub file: &'a [u8],
+    pub book: &'a [u64],
+    pub ceiling: u32,
+    pub reading: Reading,
+    pub events: &'a [u16],
+}
+
+impl<'a> Case<'a> {
+    // The reading that opening a rule gives, by some book, with no event yet and no ceiling that counts.
+    pub fn opened(file: &'a [u8], book: &'a [u64]) -> Case<'a> {
+        Case {
+            name: "",
+            file,
+            book,
+            ceiling: MOST,
+            reading: first_of(file),
+            events: &[],
+        }
     }
-}
 
-// Over one level.
-pub fn over_one(
-    file: &[u8],
-    book: &[u64],
-    ceiling: u32,
-    reading: Reading,
-    levels: [Level; 1],
-    events: &[u16],
-) -> Outcome
-    ensures { OutcomeIs file.now book.now ceiling reading levels events.now result }
-{
-    let mut store = levels;
-    let fed = reading::feed(file, book, ceiling, reading, &mut store, events);
-    let end = reading::finish(file, book, fed.reading, &store);
-    Outcome { fed, end }
-}
+    // The same under a name.
+    pub fn named(self, name: &'a str) -> Case<'a> {
+        Case { name, ..self }
+    }
 
-// Over two levels.
-pub fn over_two(
-    file: &[u8],
-    book: &[u64],
-    ceiling: u32,
-    reading: Reading,
-    levels: [Level; 2],
-    events: &[u16],
-) -> Outcome
-    ensures { OutcomeIs file.now book.now ceiling reading levels events.now result }
-{
-    let mut store = levels;
-    let fed = reading::feed(file, book, ceiling, reading, &mut store, events);
-    let end = reading::finish(file, book, fed.reading, &store);
-    Outcome { fed, end }
-}
+    // Fed, and then finished.
+    pub fn over<const N: usize>(self, mut levels: [Level; N]) -> Outcome
+        ensures { let case = self.entry in OutcomeIs case.file.now case.book.now case.ceiling case.reading levels.entry case.events.now result }
+    {
+        let fed = reading::feed(
+            self.file,
+            self.book,
+            self.ceiling,
+            self.reading,
+            &mut levels,
+            self.events,
+        );
+        let end = reading::finish(self.file, self.book, fed.reading, &levels);
+        Outcome { fed, end }
+    }
 
-// Over 1,024 levels, by the calls that take them by value.
-pub fn over_many(
-    file: &[u8],
-    book: &[u64],
-    ceiling: u32,
-    reading: Reading,
-    levels: [Level; 1024],
-    events: &[u16],
-) -> Outcome
-    ensures { OutcomeIs file.now book.now ceiling reading levels events.now result }
-{
-    let after = reading::feed_array(file, book, ceiling, reading, levels, events);
-    let fed = after.fed;
-    let left = after.levels;
-    let end = reading::finish_array(file, book, fed.reading, left);
-    Outcome { fed, end }
+    // How many events feeding took, or what it refused.
+    pub fn tell_fed<const N: usize>(self, rt: &impl Print, levels: [Level; N]) -> io::Result<()> {
+        lines::fed(rt, self.name, self.over(levels).fed)
+    }
+
+    // The end of the reading and its looks, or else what feeding refused.
+    pub fn tell_end<const N: usize>(self, rt: &impl Print, levels: [Level; N]) -> io::Result<()> {
+        let Outcome { fed, end } = self.over(levels);
+        match fed.ended {
+            Feeding::AllTaken => lines::end(rt, self.name, end, fed.reading.looks),
+            Feeding::Refused(r) => lines::end(rt, self.name, End::Refused(r), 0),
+        }
+    }
 }
