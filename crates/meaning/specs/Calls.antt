@@ -1,18 +1,16 @@
 -- The calls (document 01, "Calls and numbers"): for each, its answer on every input and what it leaves in each lent slice.
 -- The rule check and the writer stand with their own heading. Every call here takes the rule as the bytes of its file.
-use Rattle.std.specs.Prelude.{ℕ, ◌+◌, ◌-◌, ◌≤◌, ◌<◌, ◌≡◌, Bool, not, ◌&&◌, ◌||◌, List, length, get_or, set, take, if◌then◌else◌}
+use Rattle.std.specs.Prelude.{ℕ, ◌+◌, ◌-◌, ◌≤◌, ◌<◌, ◌≡◌, Bool, not, ◌&&◌, ◌||◌, List, length, get_or, set, take, if◌then◌else◌, Result, Ok, Err, MatchResult}
 use Rattle.meaning.specs.declared.Reading.{Reading}
 use Rattle.meaning.specs.declared.Level.{Level}
 use Rattle.meaning.specs.declared.Refusal.{Refusal}
-use Rattle.meaning.specs.declared.Verdict.{Verdict}
-use Rattle.meaning.specs.declared.Verdict.TheVariants.{OffSchema, Reject, Accept}
+use Rattle.meaning.specs.declared.reason.Reason.{Reason}
+use Rattle.meaning.specs.declared.reason.Reason.TheVariants as reason
+use Rattle.meaning.specs.declared.verdict.Verdict.{Verdict}
+use Rattle.meaning.specs.declared.verdict.Verdict.TheVariants.{OffSchema, Reject, Accept}
+use Rattle.meaning.specs.declared.verdict.NoClass.{NoClass}
 use Rattle.meaning.specs.declared.Opening.{Opening}
-use Rattle.meaning.specs.declared.Opened.{Opened}
-use Rattle.meaning.specs.declared.Opened.TheVariants as opened
-use Rattle.meaning.specs.declared.End.{End}
-use Rattle.meaning.specs.declared.End.TheVariants as end
-use Rattle.meaning.specs.declared.Feeding.{Feeding}
-use Rattle.meaning.specs.declared.Feeding.TheVariants as feeding
+use Rattle.meaning.specs.declared.Judgement.{Judgement}
 use Rattle.meaning.specs.Answers.{Answer, given, refused, refuse◌at◌when◌otherwise◌, ◌and_then◌, ◌giving◌, ◌<?◌}
 use Rattle.meaning.specs.RuleFile.{Rule, is_state, class_of, check_rule, rule_of}
 use Rattle.meaning.specs.FullReading.{Turn, stays, stores, ends, Run, innermost, blank, fresh_reading, Went, feed_by}
@@ -27,26 +25,49 @@ verdict_says OffSchema = 0
 verdict_says Reject = 1
 verdict_says Accept = 2
 
+-- the verdict of a class, or the byte that is no class
+abbrev pub IsVerdictOf : ℕ → Result Verdict NoClass → Type 0
+IsVerdictOf class r = MatchResult r (λ verdict. verdict_says verdict ≡ class) (λ e. (e.0 ≡ class) × (2 < class))
+
 -- a verdict's class, and the end state
 pub record Judged : Type 0 where
   pub class : ℕ
   pub state : ℕ
 
+-- the number that the table of document 01 gives a reason
+unfoldable pub number_of : Reason → ℕ
+number_of reason.CutShort = 1
+number_of reason.WrongKind = 2
+number_of reason.WrongLength = 3
+number_of reason.OutOfRange = 4
+number_of reason.BytesAfter = 5
+number_of reason.BookTooShort = 6
+number_of reason.CloseAtTop = 7
+number_of reason.StoreFull = 8
+number_of reason.AtCeiling = 9
+number_of reason.UnknownEvent = 10
+number_of reason.NoLetterMove = 11
+number_of reason.LeftOpen = 12
+number_of reason.NotAReading = 13
+number_of reason.OutputTooShort = 14
+number_of reason.RoundsUsedUp = 15
+number_of reason.EventLimit = 16
+number_of reason.NoTreeStart = 17
+number_of reason.NoTreeMove = 18
+
 -- a refusal's number and place
 unfoldable pub refusal_says : {A : Type 0} → Refusal → Answer A
 refusal_says r = refused r.number r.place
 
-unfoldable pub opened_says : Opened → Answer Opening
-opened_says (opened.Ready o) = given o
-opened_says (opened.Refused r) = refusal_says r
+-- what was asked for, or a refusal
+unfoldable pub says : {A : Type 0} → Result A Refusal → Answer A
+says (Ok a) = given a
+says (Err r) = refusal_says r
 
-unfoldable pub end_says : End → Answer Judged
-end_says (end.Judged j) = given (record { class = verdict_says j.verdict; state = j.state })
-end_says (end.Refused r) = refusal_says r
-
-unfoldable pub feeding_says : Feeding → Answer Unit
-feeding_says feeding.AllTaken = given tt
-feeding_says (feeding.Refused r) = refusal_says r
+-- a verdict's class with the end state, or a refusal
+unfoldable pub end_says : Result Judgement Refusal → Answer Judged
+end_says (Ok j) = given (record { class = verdict_says j.verdict; state = j.state })
+end_says (Err r) = refusal_says r
 
 -- ---- open
 

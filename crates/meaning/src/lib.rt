@@ -1,38 +1,31 @@
-// The data that the calls take and answer, in the words of document 01. Nothing here runs: the definitions that say
-// what each call answers are in specs/, and what is proved of them is in proofs/.
+// The data that the calls take and answer, in the words of document 01. What runs here is the codes alone: the number of a reason,
+// and the class and the word of a verdict. The definitions that say what each call answers are in specs/, and what is proved of
+// them is in proofs/.
 #![tactic(auto)]
 
-// A refusal: its number in document 01's table, and the place that the table gives it.
-#[derive(Clone, Copy)]
+mod reason;
+mod verdict;
+
+pub use reason::Reason;
+pub use verdict::{NoClass, Verdict};
+
+// A refusal: its number in document 01's table, and the place that the table gives it. The number is not a `Reason`, since
+// `program::passes::go_on` and `program::body::refused_text` promise an answer for any.
+#[derive(Clone, Copy, Debug, PartialEq, Eq, Hash)]
 pub struct Refusal {
     pub number: u8,
     pub place: usize,
 }
 
-// What the class of the end state says.
-#[derive(Clone, Copy)]
-pub enum Verdict {
-    OffSchema,
-    Reject,
-    Accept,
-}
-
 // A verdict with its end state.
-#[derive(Clone, Copy)]
+#[derive(Clone, Copy, Debug, PartialEq, Eq, Hash)]
 pub struct Judgement {
     pub verdict: Verdict,
     pub state: u8,
 }
 
-// The end of a reading: either a verdict with its end state, or a refusal with its place.
-#[derive(Clone, Copy)]
-pub enum End {
-    Judged(Judgement),
-    Refused(Refusal),
-}
-
 // A reading: the current state, the stored depth, the skip depth, the events taken and the looks made.
-#[derive(Clone, Copy)]
+#[derive(Clone, Copy, Debug, Default, PartialEq, Eq, Hash)]
 pub struct Reading {
     pub state: u8,
     pub depth: u32,
@@ -43,37 +36,23 @@ pub struct Reading {
 
 // One record of the level store: the state above the level, and the place of its opening.
 #[repr(C)]
-#[derive(Clone, Copy)]
+#[derive(Clone, Copy, Debug, Default, PartialEq, Eq, Hash)]
 pub struct Level {
     pub above: u8,
     pub opened: u32,
 }
 
 // What opening gives: the fresh reading, and how many states are still.
-#[derive(Clone, Copy)]
+#[derive(Clone, Copy, Debug, PartialEq, Eq, Hash)]
 pub struct Opening {
     pub reading: Reading,
     pub still: u32,
 }
 
-// What opening answers: a reading that is ready to be fed, with the still count, or a refusal.
-#[derive(Clone, Copy)]
-pub enum Opened {
-    Ready(Opening),
-    Refused(Refusal),
-}
-
-// How feeding ended: all events taken, or one refused.
-#[derive(Clone, Copy)]
-pub enum Feeding {
-    AllTaken,
-    Refused(Refusal),
-}
-
-// What feeding answers: how many events it took, the reading after them, and how it ended.
-#[derive(Clone, Copy)]
+// What feeding answers: how many events it took, the reading after them, and how it ended: all events taken, or one refused.
+#[derive(Clone, Copy, Debug, PartialEq, Eq, Hash)]
 pub struct Fed {
     pub taken: u32,
     pub reading: Reading,
-    pub ended: Feeding,
+    pub ended: Result<(), Refusal>,
 }

@@ -1,6 +1,5 @@
 pub mod Looks
 pub mod Said
 pub mod Steps
-pub mod Outcomes
 pub mod Stages
 pub mod Laying

@@ -13,7 +13,7 @@ use Rattle.meaning.specs.Answers.{given, ◌=?◌}
 use Rattle.meaning.specs.RuleFile.{Rule, to, no_move, none, part, check_rule, as_move, letter_move, tree_move, class_of}
 use Rattle.meaning.proofs.rulefile.Accepted.{accepted-is-rule, letter-part, tree-part, class-part}
 use Rattle.rule.specs.declared.tables.Table.{Table}
-use Rattle.rule.specs.declared.tables.Move.TheVariants.{To, NoneIn}
+use Rattle.std.specs.Prelude.{Ok, Err}
 use Rattle.rule.specs.Tables.{letter_byte, tree_byte, class_byte, move_says, move_in}
 
 -- inside a list what would stand past its end does not matter
@@ -37,7 +37,7 @@ pub found-is : (table : Table) (byte : ℕ) → move_says (move_in table byte) �
 unfolding move_in move_says as_move
 found-is table byte = go (byte =? none)
   where
-    go : (is_none : Bool) → move_says (if is_none then (NoneIn table) else (To byte)) ≡ if is_none then no_move else (to byte)
+    go : (is_none : Bool) → move_says (if is_none then (Err table) else (Ok byte)) ≡ if is_none then no_move else (to byte)
     go true = refl
     go false = refl
 

@@ -1,18 +1,22 @@
--- What the single checks of a rule answer: the listing of their outcome, one test for every number that stands in a table,
--- and the rule of the writer's arguments.
+-- What the single checks of a rule answer: one test for every number that stands in a table, and the rule of the writer's
+-- arguments.
 use Rattle.std.specs.Prelude.{ℕ, ◌+◌, ◌*◌, Bool, true, false, not, List, [], length}
 use Rattle.meaning.specs.Answers.{refuse◌at◌when◌otherwise◌, Answer, given, ◌and_then◌, ◌<?◌, ◌=?◌}
 use Rattle.meaning.specs.RuleFile as format
 use Rattle.meaning.specs.RuleFile.{is_state, is_move, numbers_check, record_check, table_check, part, header_length, letter_record, tree_record, class_record, file_length, class_count}
-use Rattle.meaning.specs.Calls.{refusal_says}
 use Rattle.rule.specs.declared.Rule.{Rule}
-use Rattle.rule.specs.declared.check.Outcome.{Outcome}
-use Rattle.rule.specs.declared.check.Outcome.TheVariants as outcome
+use Rattle.rule.specs.declared.writer.Parts.{Parts}
+use Rattle.rule.specs.declared.kind.Kind.{Kind}
+use Rattle.rule.specs.declared.kind.Kind.TheVariants as kind
 use Rattle.rule.specs.Says.{numbers_of}
 
-unfoldable pub outcome_says : Outcome → Answer Unit
-outcome_says outcome.Passes = given tt
-outcome_says (outcome.Refused r) = refusal_says r
+-- the number in the kind field of a record
+unfoldable pub kind_code : Kind → ℕ
+kind_code kind.Numbers = 1
+kind_code kind.LetterMoves = 2
+kind_code kind.TreeMoves = 3
+kind_code kind.Classes = 4
+kind_code kind.Events = 5
 
 -- a number below a bound, or none where that is allowed
 unfoldable pub in_range : ℕ → Bool → ℕ → Bool
@@ -31,6 +35,15 @@ rule_from n initial tree_start k letter_moves tree_moves classes =
       tree_moves = tree_moves;
       classes = classes;
     }
+
+-- the rule with these numbers and no tables
+abbrev pub bare_rule : Rule → format.Rule
+bare_rule r = rule_from r.states r.initial r.tree_start r.letters [] [] []
+
+-- the rule that the writer is given
+abbrev pub parts_rule : Parts → format.Rule
+parts_rule p =
+    rule_from p.rule.states p.rule.initial p.rule.tree_start p.rule.letters p.letter_moves.now p.tree_moves.now p.classes.now
 
 -- what the check of the four numbers answers: the numbers, or the refusal
 unfoldable pub numbers_answer : ℕ → ℕ → ℕ → ℕ → Answer Rule

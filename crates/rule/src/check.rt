@@ -1,36 +1,23 @@
 // The single checks of a rule file: one pass over its bytes, the tables lent as parts of it.
-ghost use Rattle.std.specs.Prelude.{◌≡◌, ◌&&◌, [], ◌+◌, ◌<◌, ◌^◌, length};
-ghost use Rattle.meaning.specs.Answers.{refused, ◌≤?◌};
+ghost use Rattle.std.specs.Prelude.{◌≡◌, ◌&&◌, ◌+◌, ◌<◌, ◌^◌, length};
+ghost use Rattle.meaning.specs.Answers.{◌≤?◌};
+ghost use Rattle.meaning.specs.Calls.{says};
 ghost use Rattle.meaning.specs.RuleFile.{number2, number4, numbers_check, record_check, table_check};
-ghost use Rattle.rule.specs.Checks.{outcome_says, in_range, rule_from, body_check, tables_check};
+ghost use Rattle.rule.specs.Checks.{in_range, bare_rule, kind_code, body_check, tables_check};
 
 use crate::Rule;
+use crate::kind::Kind;
 use crate::layout::{LETTER_RECORD, Layout};
+use crate::range::Range;
 use crate::tables::HEADER;
-use meaning::Refusal;
-
-// What one check answers: it passes, or a refusal.
-#[derive(Clone, Copy)]
-pub enum Outcome {
-    Passes,
-    Refused(Refusal),
-}
-
-// The classes are below this number.
-pub const CLASSES: u8 = 3;
-
-pub fn refuse(number: u8, place: usize) -> Outcome
-    ensures { outcome_says result ≡ refused number place }
-{
-    Outcome::Refused(Refusal { number, place })
-}
+use meaning::{Reason, Refusal};
 
 // The number that two bytes stand for.
 pub fn number2(file: &[u8], place: usize) -> u16
     requires { place + 1 < length file.now }
     ensures { result ≡ number2 file.now place }
 {
-    file[place] as u16 + ((file[place + 1] as u16) << 8)
+    u16::from_le_bytes([file[place], file[place + 1]])
 }
 
 // The number that four bytes stand for.
@@ -38,7 +25,12 @@ pub fn number4(file: &[u8], place: usize) -> u32
     requires { place + 3 < length file.now }
     ensures { result ≡ number4 file.now place }
 {
-    number2(file, place) as u32 + ((number2(file, place + 2) as u32) << 16)
+    u32::from_le_bytes([
+        file[place],
+        file[place + 1],
+        file[place + 2],
+        file[place + 3],
+    ])
 }
 
 // A count is from 1 to its most.
@@ -48,109 +40,95 @@ fn from_one_to(most: u16, x: u16) -> bool
     1 <= x && x <= most
 }
 
-// A number is below a bound, or none where that is allowed.
-fn in_range(below: u8, none: bool, x: u8) -> bool
-    ensures { result ≡ in_range below none x }
-{
-    x < below || none && x == Rule::NONE
-}
-
 // The four numbers, in file order.
-pub fn numbers_check(states: u8, initial: u8, tree_start: u8, letters: u16) -> Outcome
-    ensures { outcome_says result ≡ numbers_check (rule_from states initial tree_start letters [] [] []) }
+pub fn numbers_check(rule: Rule) -> Result<(), Refusal>
+    ensures { says result ≡ numbers_check (bare_rule rule) }
 {
-    if !from_one_to(Rule::MOST_STATES as u16, states as u16) {
-        return refuse(4, 6);
+    if !from_one_to(Rule::MOST_STATES as u16, rule.states as u16) {
+        return Err(Reason::OutOfRange.at(6));
     }
-    if !in_range(states, false, initial) {
-        return refuse(4, 7);
+    if !Range::states(rule.states).contains(rule.initial) {
+        return Err(Reason::OutOfRange.at(7));
     }
-    if !in_range(states, true, tree_start) {
-        return refuse(4, 8);
+    if !Range::moves(rule.states).contains(rule.tree_start) {
+        return Err(Reason::OutOfRange.at(8));
     }
-    if !from_one_to(Rule::MOST_LETTERS, letters) {
-        return refuse(4, 9);
+    if !from_one_to(Rule::MOST_LETTERS, rule.letters) {
+        return Err(Reason::OutOfRange.at(9));
     }
-    Outcome::Passes
+    Ok(())
 }
 
 // One record that stands at a place, of a kind and with a body of so many bytes.
-pub fn record_check(file: &[u8], place: usize, kind: u16, size: usize) -> Outcome
+pub fn record_check(file: &[u8], place: usize, kind: u16, size: usize) -> Result<(), Refusal>
     requires { place + size < 2 ^ 60 }
-    ensures { outcome_says result ≡ record_check file.now place kind size }
+    ensures { says result ≡ record_check file.now place kind size }
 {
     let count = file.len();
     if count < place + HEADER {
-        return refuse(1, count);
+        return Err(Reason::CutShort.at(count));
     }
     if number2(file, place + 4) != kind {
-        return refuse(2, place + 4);
+        return Err(Reason::WrongKind.at(place + 4));
     }
     if number4(file, place) as usize != size {
-        return refuse(3, place);
+        return Err(Reason::WrongLength.at(place));
     }
     if count < place + HEADER + size {
-        return refuse(1, count);
+        return Err(Reason::CutShort.at(count));
     }
-    Outcome::Passes
+    Ok(())
 }
 
 // The numbers of a table that stands at a place, the first bad one first.
-pub fn table_check(body: &[u8], place: usize, below: u8, none: bool) -> Outcome
+pub fn table_check(body: &[u8], place: usize, good: Range) -> Result<(), Refusal>
     requires { place < 2 ^ 60 }
-    ensures { outcome_says result ≡ table_check (in_range below none) place body.now }
+    ensures { says result ≡ table_check (in_range good.below good.none) place body.now }
 {
-    let mut i = 0;
-    while i < body.len() {
-        if !in_range(below, none, body[i]) {
-            return refuse(4, place + i);
+    for (i, &x) in body.iter().enumerate() {
+        if !good.contains(x) {
+            return Err(Reason::OutOfRange.at(place + i));
         }
-        i += 1;
     }
-    Outcome::Passes
+    Ok(())
 }
 
 // One record that stands at a place, and then the numbers in its body.
-fn body_check(file: &[u8], place: usize, kind: u16, size: usize, below: u8, none: bool) -> Outcome
+fn body_check(
+    file: &[u8],
+    place: usize,
+    kind: Kind,
+    size: usize,
+    good: Range,
+) -> Result<(), Refusal>
     requires { place + size < 2 ^ 59 }
-    ensures { outcome_says result ≡ body_check file.now place kind size below none }
+    ensures { says result ≡ body_check file.now place (kind_code kind) size good.below good.none }
 {
-    let whole = record_check(file, place, kind, size);
-    if let Outcome::Refused(_) = whole {
-        return whole;
-    }
+    record_check(file, place, kind.code(), size)?;
     let start = place + HEADER;
     let end = start + size;
-    table_check(&file[start..end], start, below, none)
+    table_check(&file[start..end], start, good)
 }
 
 // The three tables of a file whose numbers are in range, and nothing after them.
-pub fn tables_check(file: &[u8], rule: Rule) -> Outcome
-    ensures { outcome_says result ≡ tables_check file.now rule.states rule.letters }
+pub fn tables_check(file: &[u8], rule: Rule) -> Result<(), Refusal>
+    ensures { says result ≡ tables_check file.now rule.states rule.letters }
 {
-    let at = Layout::of(rule.states, rule.letters);
-    let letters = body_check(file, LETTER_RECORD, 2, at.letter_moves, rule.states, true);
-    if let Outcome::Refused(_) = letters {
-        return letters;
-    }
-    let trees = body_check(file, at.tree_record, 3, at.tree_moves, rule.states, true);
-    if let Outcome::Refused(_) = trees {
-        return trees;
-    }
-    let classes = body_check(
+    let at = Layout::of(rule);
+    let moves = Range::moves(rule.states);
+    let states = rule.states as usize;
+    body_check(
         file,
-        at.class_record,
-        4,
-        rule.states as usize,
-        CLASSES,
-        false,
-    );
-    if let Outcome::Refused(_) = classes {
-        return classes;
-    }
+        LETTER_RECORD,
+        Kind::LetterMoves,
+        at.letter_moves,
+        moves,
+    )?;
+    body_check(file, at.tree_record, Kind::TreeMoves, at.tree_moves, moves)?;
+    body_check(file, at.class_record, Kind::Classes, states, Range::CLASSES)?;
     let more = at.count < file.len();
     if more {
-        return refuse(5, at.count);
+        return Err(Reason::BytesAfter.at(at.count));
     }
-    Outcome::Passes
+    Ok(())
 }

@@ -1,6 +1,7 @@
 // Where the records of a rule file stand and how long their bodies are: counted once, for the check and for the writer.
 ghost use Rattle.rule.specs.Places.{IsLayout};
 
+use crate::Rule;
 use crate::tables::{HEADER, product};
 
 // The bytes of the body of kind 1.
@@ -11,7 +12,7 @@ pub const LETTER_RECORD: usize = 11;
 
 // The bytes of the letter moves and of the tree moves, the places of the third and the fourth record, and the bytes of the
 // whole file.
-#[derive(Clone, Copy)]
+#[derive(Clone, Copy, Debug, PartialEq, Eq, Hash)]
 pub struct Layout {
     pub letter_moves: usize,
     pub tree_moves: usize,
@@ -21,11 +22,12 @@ pub struct Layout {
 }
 
 impl Layout {
-    pub fn of(states: u8, letters: u16) -> Self
-        ensures { IsLayout states letters result }
+    pub fn of(rule: Rule) -> Self
+        ensures { IsLayout rule.states rule.letters result }
     {
-        let letter_moves = product(states as u16, letters);
-        let tree_moves = product(states as u16, states as u16);
+        let states = rule.states as u16;
+        let letter_moves = product(states, rule.letters);
+        let tree_moves = product(states, states);
         let tree_record = LETTER_RECORD + HEADER + letter_moves;
         let class_record = tree_record + HEADER + tree_moves;
         Layout {
@@ -33,7 +35,7 @@ impl Layout {
             tree_moves,
             tree_record,
             class_record,
-            count: class_record + HEADER + states as usize,
+            count: class_record + HEADER + rule.states as usize,
         }
     }
 }

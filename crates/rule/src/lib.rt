@@ -2,19 +2,25 @@
 #![tactic(auto)]
 
 pub mod check;
+mod checked;
+mod kind;
 mod layout;
+mod range;
 pub mod tables;
 pub mod writer;
 
 ghost use Rattle.std.specs.Prelude.{◌≡◌};
-ghost use Rattle.rule.specs.Says.{checked_says, check_answer};
+ghost use Rattle.meaning.specs.Calls.{says};
+ghost use Rattle.rule.specs.Says.{check_answer};
 ghost use Rattle.rule.specs.Checks.{numbers_answer};
 
-use check::Outcome;
+pub use checked::CheckedRule;
+pub use kind::Kind;
 use meaning::Refusal;
+pub use range::Range;
 
 // The four numbers of a rule. Its tables stay in the bytes of its file, where they are read at computed offsets.
-#[derive(Clone, Copy)]
+#[derive(Clone, Copy, Debug, PartialEq, Eq, Hash)]
 pub struct Rule {
     pub states: u8,
     pub initial: u8,
@@ -33,50 +39,31 @@ impl Rule {
     pub const NONE: u8 = 255;
 
     // The rule check: the numbers of the rule that the bytes of a file hold, or the first refusal.
-    pub fn of_file(file: &[u8]) -> Checked
-        ensures { checked_says result ≡ check_answer file.now }
+    pub fn of_file(file: &[u8]) -> Result<Self, Refusal>
+        ensures { says result ≡ check_answer file.now }
     {
-        if let Outcome::Refused(refusal) = check::record_check(file, 0, 1, layout::NUMBERS) {
-            return Checked::Refused(refusal);
-        }
-        let numbers = Self::of_numbers(file[6], file[7], file[8], check::number2(file, 9));
-        let Checked::Fine(rule) = numbers else {
-            return numbers;
-        };
-        if let Outcome::Refused(refusal) = check::tables_check(file, rule) {
-            return Checked::Refused(refusal);
-        }
-        numbers
+        check::record_check(file, 0, Kind::Numbers.code(), layout::NUMBERS)?;
+        let rule = Self::of_numbers(file[6], file[7], file[8], check::number2(file, 9))?;
+        check::tables_check(file, rule)?;
+        Ok(rule)
     }
 
     // A rule's numbers, where each is in range. The places of those that are not are the ones in its file.
-    pub fn of_numbers(states: u8, initial: u8, tree_start: u8, letters: u16) -> Checked
-        ensures { checked_says result ≡ numbers_answer states initial tree_start letters }
+    pub fn of_numbers(
+        states: u8,
+        initial: u8,
+        tree_start: u8,
+        letters: u16,
+    ) -> Result<Self, Refusal>
+        ensures { says result ≡ numbers_answer states initial tree_start letters }
     {
-        if let Outcome::Refused(refusal) = check::numbers_check(
-            states, initial, tree_start, letters,
-        ) {
-            return Checked::Refused(refusal);
-        }
-        Checked::Fine(Rule {
+        let rule = Rule {
             states,
             initial,
             tree_start,
             letters,
-        })
+        };
+        check::numbers_check(rule)?;
+        Ok(rule)
     }
-}
-
-// What the rule check answers: the rule's numbers, or a refusal.
-#[derive(Clone, Copy)]
-pub enum Checked {
-    Fine(Rule),
-    Refused(Refusal),
-}
-
-// What the writer answers: the count of bytes written, or a refusal.
-#[derive(Clone, Copy)]
-pub enum Written {
-    Bytes(usize),
-    Refused(Refusal),
 }

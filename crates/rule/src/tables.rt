@@ -1,23 +1,33 @@
 // The tables of a rule, read in the bytes of its file: one read at a computed offset, and no copy. What a look finds names its
 // table where there is no move, so that whoever looks need not know in which table it was.
 ghost use Rattle.std.specs.Prelude.{◌≡◌, ◌+◌, ◌*◌, ◌<◌, ◌^◌, get_or};
-ghost use Rattle.rule.specs.Tables.{letter_byte, tree_byte, class_byte, move_in};
+ghost use Rattle.meaning.specs.Calls.{number_of};
+ghost use Rattle.meaning.specs.FullReading.{no_move_number};
+ghost use Rattle.rule.specs.Tables.{table_says, letter_byte, tree_byte, class_byte, move_in};
 
 use crate::Rule;
+use meaning::Reason;
 
 // The three tables that a look may be in.
-#[derive(Clone, Copy)]
+#[derive(Clone, Copy, Debug, PartialEq, Eq, Hash)]
 pub enum Table {
     LetterMoves,
     TreeStart,
     TreeMoves,
 }
 
-// What a look finds: the state that the move leads to, or no move, and which table has none.
-#[derive(Clone, Copy)]
-pub enum Move {
-    To(u8),
-    NoneIn(Table),
+// Where there is no move: the number of the refusal is its table's.
+impl From<Table> for Reason {
+    ghost from_gives = { λ table reason. number_of reason ≡ no_move_number (table_says table) };
+
+    #[tactic(auto, unfolding(meaning::specs::Calls::number_of, meaning::specs::FullReading::no_move_number, crate::specs::Tables::table_says))]
+    fn from(table: Table) -> Reason {
+        match table {
+            Table::LetterMoves => Reason::NoLetterMove,
+            Table::TreeStart => Reason::NoTreeStart,
+            Table::TreeMoves => Reason::NoTreeMove,
+        }
+    }
 }
 
 // The bytes before the letter moves.
@@ -30,21 +40,17 @@ pub const HEADER: usize = 6;
 fn byte_or_none(file: &[u8], place: usize) -> u8
     ensures { result ≡ get_or file.now place 255 }
 {
-    if place < file.len() {
-        file[place]
-    } else {
-        Rule::NONE
-    }
+    file.get(place).copied().unwrap_or(Rule::NONE)
 }
 
-// The move that a byte of a table stands for.
-fn move_in(table: Table, byte: u8) -> Move
+// The move that a byte of a table stands for: the state that it leads to, or the table that has none.
+fn move_in(table: Table, byte: u8) -> Result<u8, Table>
     ensures { result ≡ move_in table byte }
 {
     if byte == Rule::NONE {
-        return Move::NoneIn(table);
+        return Err(table);
     }
-    Move::To(byte)
+    Ok(byte)
 }
 
 // The product of two small numbers.
@@ -55,7 +61,7 @@ pub(crate) fn product(a: u16, b: u16) -> usize
 }
 
 // The letter move of a state and a letter, as the file has it.
-pub fn letter_move(file: &[u8], rule: Rule, state: u8, letter: u16) -> Move
+pub fn letter_move(file: &[u8], rule: Rule, state: u8, letter: u16) -> Result<u8, Table>
     ensures { result ≡ move_in Table.LetterMoves (letter_byte file.now rule.letters state letter) }
 {
     let row = product(state as u16, rule.letters);
@@ -64,14 +70,14 @@ pub fn letter_move(file: &[u8], rule: Rule, state: u8, letter: u16) -> Move
 }
 
 // The tree start, as a move.
-pub fn tree_start(rule: Rule) -> Move
+pub fn tree_start(rule: Rule) -> Result<u8, Table>
     ensures { result ≡ move_in Table.TreeStart rule.tree_start }
 {
     move_in(Table::TreeStart, rule.tree_start)
 }
 
 // The tree move of an upper and a lower state, as the file has it.
-pub fn tree_move(file: &[u8], rule: Rule, upper: u8, lower: u8) -> Move
+pub fn tree_move(file: &[u8], rule: Rule, upper: u8, lower: u8) -> Result<u8, Table>
     ensures { result ≡ move_in Table.TreeMoves (tree_byte file.now rule.states rule.letters upper lower) }
 {
     let before = product(rule.states as u16, rule.letters);

@@ -1,43 +1,51 @@
 -- The four tests in file order: each refusal is the definition's, and where all pass so does it.
-use Rattle.std.proofs.Common.{sym, ap, ◌∙◌, not}
+use Rattle.std.proofs.Common.{◌≡◌, sym, ap, ◌∙◌, ℕ, Bool, not}
+use Rattle.rule.specs.declared.range.Range.{Range}
 use Rattle.meaning.specs.RuleFile.{numbers_check, is_states, is_letters}
 use Rattle.meaning.proofs.laws.Answered.{refuse-passes, refuse-stops}
-use Rattle.rule.specs.Checks.{outcome_says, rule_from, in_range}
+use Rattle.rule.specs.Checks.{rule_from, in_range}
+use Rattle.meaning.specs.Calls.{says, number_of}
+use Rattle.meaning.proofs.laws.Handed.{refusal-at}
 use Rattle.rule.proofs.check.numbers_check.Goals as goal
 
+-- what the test of a range answered, where its bound and its none are known
+tested : {good : Range} {below : ℕ} {none passes passed : Bool} (x : ℕ) → good.below ≡ below → good.none ≡ none
+    → passes ≡ in_range good.below good.none x → passes ≡ passed → not (in_range below none x) ≡ not passed
+tested x b n is told = rw (← b, ← n) (ap not (sym is ∙ told))
+
 pub returns-then-not-from_one_to : goal.returns-then-not-from_one_to
-unfolding numbers_check rule_from in_range is_states is_letters
+unfolding number_of numbers_check rule_from in_range is_states is_letters
 returns-then-not-from_one_to c =
-    c.refuse.ensures ∙ sym (refuse-stops 4 6 _ (ap not (sym c.from_one_to.ensures ∙ c.if-not-from_one_to.true)))
+    refusal-at c.at.ensures.number c.at.ensures.place ∙ sym (refuse-stops 4 6 _ (ap not (sym c.from_one_to.ensures ∙ c.if-not-from_one_to.true)))
 
-pub returns-then-not-in_range : goal.returns-then-not-in_range
-unfolding numbers_check rule_from in_range is_states is_letters
-returns-then-not-in_range c =
-    c.refuse-then-not-in_range.ensures
+pub returns-then-not-contains : goal.returns-then-not-contains
+unfolding number_of numbers_check rule_from in_range is_states is_letters
+returns-then-not-contains c =
+    refusal-at c.at-then-not-contains.ensures.number c.at-then-not-contains.ensures.place
     ∙ sym (refuse-passes 4 6 _ (ap not (sym c.from_one_to.ensures ∙ c.if-not-from_one_to.false))
-    ∙ refuse-stops 4 7 _ (ap not (sym c.in_range.ensures ∙ c.if-not-in_range.true)))
+    ∙ refuse-stops 4 7 _ (tested _ c.states.ensures.below c.states.ensures.none c.contains.ensures c.if-not-contains.true))
 
-pub returns-then-not-in_range-2 : goal.returns-then-not-in_range-2
-unfolding numbers_check rule_from in_range is_states is_letters
-returns-then-not-in_range-2 c =
-    c.refuse-then-not-in_range-2.ensures
+pub returns-then-not-contains-2 : goal.returns-then-not-contains-2
+unfolding number_of numbers_check rule_from in_range is_states is_letters
+returns-then-not-contains-2 c =
+    refusal-at c.at-then-not-contains-2.ensures.number c.at-then-not-contains-2.ensures.place
     ∙ sym (refuse-passes 4 6 _ (ap not (sym c.from_one_to.ensures ∙ c.if-not-from_one_to.false))
-    ∙ refuse-passes 4 7 _ (ap not (sym c.in_range.ensures ∙ c.if-not-in_range.false))
-    ∙ refuse-stops 4 8 _ (ap not (sym c.in_range-2.ensures ∙ c.if-not-in_range-2.true)))
+    ∙ refuse-passes 4 7 _ (tested _ c.states.ensures.below c.states.ensures.none c.contains.ensures c.if-not-contains.false)
+    ∙ refuse-stops 4 8 _ (tested _ c.moves.ensures.below c.moves.ensures.none c.contains-2.ensures c.if-not-contains-2.true))
 
 pub returns-then-not-from_one_to-2 : goal.returns-then-not-from_one_to-2
-unfolding numbers_check rule_from in_range is_states is_letters
+unfolding number_of numbers_check rule_from in_range is_states is_letters
 returns-then-not-from_one_to-2 c =
-    c.refuse-then-not-from_one_to-2.ensures
+    refusal-at c.at-then-not-from_one_to-2.ensures.number c.at-then-not-from_one_to-2.ensures.place
     ∙ sym (refuse-passes 4 6 _ (ap not (sym c.from_one_to.ensures ∙ c.if-not-from_one_to.false))
-    ∙ refuse-passes 4 7 _ (ap not (sym c.in_range.ensures ∙ c.if-not-in_range.false))
-    ∙ refuse-passes 4 8 _ (ap not (sym c.in_range-2.ensures ∙ c.if-not-in_range-2.false))
+    ∙ refuse-passes 4 7 _ (tested _ c.states.ensures.below c.states.ensures.none c.contains.ensures c.if-not-contains.false)
+    ∙ refuse-passes 4 8 _ (tested _ c.moves.ensures.below c.moves.ensures.none c.contains-2.ensures c.if-not-contains-2.false)
     ∙ refuse-stops 4 9 _ (ap not (sym c.from_one_to-2.ensures ∙ c.if-not-from_one_to-2.true)))
 
 pub returns : goal.returns
-unfolding numbers_check rule_from in_range is_states is_letters outcome_says
+unfolding number_of numbers_check rule_from in_range is_states is_letters says
 returns c =
     sym (refuse-passes 4 6 _ (ap not (sym c.from_one_to.ensures ∙ c.if-not-from_one_to.false))
-    ∙ refuse-passes 4 7 _ (ap not (sym c.in_range.ensures ∙ c.if-not-in_range.false))
-    ∙ refuse-passes 4 8 _ (ap not (sym c.in_range-2.ensures ∙ c.if-not-in_range-2.false))
+    ∙ refuse-passes 4 7 _ (tested _ c.states.ensures.below c.states.ensures.none c.contains.ensures c.if-not-contains.false)
+    ∙ refuse-passes 4 8 _ (tested _ c.moves.ensures.below c.moves.ensures.none c.contains-2.ensures c.if-not-contains-2.false)
     ∙ refuse-passes 4 9 _ (ap not (sym c.from_one_to-2.ensures ∙ c.if-not-from_one_to-2.false)))

@@ -1,16 +1,19 @@
 -- A bad number is refused at its place, a good one is passed, and where all are good so does the definition.
 use Rattle.std.proofs.Common.{◌≡◌, sym, ◌∙◌, suc, ◌+◌, ◌<◌, length, add-one, arith}
-use Rattle.rule.specs.Checks.{outcome_says, in_range}
+use Rattle.meaning.specs.Calls.{says, number_of}
+use Rattle.meaning.proofs.laws.Handed.{refusal-at}
+use Rattle.rule.specs.Checks.{in_range}
 use Rattle.rule.proofs.Steps.{table_on, table-bad, table-end}
 use Rattle.rule.proofs.check.table_check.Goals as goal
 
-pub returns-then-not-in_range : goal.returns-then-not-in_range
-returns-then-not-in_range c =
+pub returns-then-not-contains : goal.returns-then-not-contains
+unfolding number_of
+returns-then-not-contains c =
     let a = c.args in
     let here : c.loop-i.i < length a.body.now = omega arith in
-    c.refuse.ensures
-    ∙ sym (c.loop-i.invariant.1 ∙ table-bad (in_range a.below a.none) (a.place + c.loop-i.i) a.body.now c.loop-i.i here
-    (sym c.in_range.ensures ∙ c.if-not-in_range.true))
+    refusal-at c.at.ensures.number c.at.ensures.place
+    ∙ sym (c.loop-i.invariant ∙ table-bad (in_range a.good.below a.good.none) (a.place + c.loop-i.i) a.body.now c.loop-i.i here
+    (sym c.contains.ensures ∙ c.if-not-contains.true))
 
 pub loop-i-preserved : goal.loop-i-preserved
 loop-i-preserved c =
@@ -18,12 +21,12 @@ loop-i-preserved c =
     let i = c.loop-i.i in
     let here : i < length a.body.now = omega arith in
     let next : a.place + (i + 1) ≡ suc (a.place + i) = omega arith in
-    let on = table_on (in_range a.below a.none) (a.place + i) a.body.now i here (sym c.in_range.ensures ∙ c.if-not-in_range.false) in
-    (omega arith, c.loop-i.invariant.1 ∙ on ∙ rw (next, add-one))
+    let on = table_on (in_range a.good.below a.good.none) (a.place + i) a.body.now i here (sym c.contains.ensures ∙ c.if-not-contains.false) in
+    c.loop-i.invariant ∙ on ∙ rw (next, add-one)
 
 pub returns : goal.returns
-unfolding outcome_says
+unfolding says
 returns c =
     let a = c.args in
     let all : c.loop-i.i ≡ length a.body.now = omega arith in
-    sym (c.loop-i.invariant.1 ∙ rw all (table-end (in_range a.below a.none) (a.place + length a.body.now) a.body.now))
+    sym (c.loop-i.invariant ∙ rw all (table-end (in_range a.good.below a.good.none) (a.place + length a.body.now) a.body.now))

@@ -1,13 +1,16 @@
 -- The three tables at the places that the code counted, and then what may follow them.
-use Rattle.std.proofs.Common.{◌≡◌, sym, ◌∙◌, true, false, List, ℕ, ◌+◌, length, arith}
+use Rattle.std.proofs.Common.{◌≡◌, sym, ◌∙◌, Bool, true, false, List, ℕ, ◌+◌, length, arith}
 use borrow.Author.Tests.{lt-ltb, le-ltb}
-use Rattle.meaning.specs.Answers.{refuse◌at◌when◌otherwise◌, given, ◌and_then◌, ◌<?◌}
+use Rattle.std.specs.Prelude.{Ok}
+use Rattle.meaning.specs.Answers.{Answer, refuse◌at◌when◌otherwise◌, given, ◌and_then◌, ◌<?◌}
+use Rattle.meaning.specs.Calls.{says, number_of}
 use Rattle.meaning.specs.RuleFile.{letter_record, tree_record, class_record, file_length, class_count, header_length, numbers_length}
 use Rattle.meaning.proofs.laws.Answered.{refuse-passes, refuse-stops}
+use Rattle.meaning.proofs.laws.Handed.{refusal-at, handed_on, and_then-ok, and_then-err}
 use Rattle.rule.specs.declared.layout.Layout.{Layout}
+use Rattle.rule.specs.declared.range.Range.{Range}
 use Rattle.rule.specs.Places.{IsLayout}
-use Rattle.rule.specs.Checks.{outcome_says, body_check, tables_check}
-use Rattle.rule.proofs.Outcomes.{passes-rest, refused_says}
+use Rattle.rule.specs.Checks.{body_check, tables_check, kind_code}
 use Rattle.rule.proofs.check.tables_check.Goals as goal
 
 -- the check of the tables, at the places that the code counted
@@ -20,45 +23,72 @@ tables-at : (file : List ℕ) {n k : ℕ} {places : Layout} → IsLayout n k pla
 unfolding tables_check letter_record
 tables-at file p = rw (p.letter_moves, p.tree_moves, p.tree_place, p.class_place, p.count)
 
-pub returns-in-Refused : goal.returns-in-Refused
-returns-in-Refused c =
-    refused_says c.body_check-letters.ensures c.in-Refused.is _ ∙ sym (tables-at c.args.file.now c.of-at.ensures)
+-- what a table of moves was checked for, where the bound and the none of its range are known
+moves-of : (file : List ℕ) (place kind size : ℕ) {good : Range} {below : ℕ} {none : Bool} {answer : Answer Unit}
+    → good.below ≡ below → good.none ≡ none → answer ≡ body_check file place kind size good.below good.none
+    → answer ≡ body_check file place kind size below none
+moves-of file place kind size b n e = rw (← b, ← n) e
 
-pub body_check-trees-requires : goal.body_check-trees-requires
+pub returns-in_err-body_check : goal.returns-in_err-body_check
+unfolding kind_code
+returns-in_err-body_check c =
+    let moves = c.moves-moves.ensures in
+    handed_on _ _ c.from_residual.ensures.1
+    ∙ sym (tables-at c.args.file.now c.of-at.ensures
+    ∙ and_then-err _ _ (moves-of _ _ _ _ moves.below moves.none c.in_err-body_check.ensures))
+
+pub body_check-requires-2 : goal.body_check-requires-2
 unfolding file_length class_record tree_record letter_record
-body_check-trees-requires c = omega arith
+body_check-requires-2 c = omega arith
 
-pub returns-in-Refused-trees : goal.returns-in-Refused-trees
-returns-in-Refused-trees c =
-    refused_says c.body_check-trees.ensures c.in-Refused-trees.is _
-    ∙ sym (passes-rest c.body_check-letters.ensures _ c.in_default.is)
-    ∙ sym (tables-at c.args.file.now c.of-at.ensures)
+pub returns-in_err-body_check-2 : goal.returns-in_err-body_check-2
+unfolding kind_code
+returns-in_err-body_check-2 c =
+    let moves = c.moves-moves.ensures in
+    handed_on _ _ c.from_residual-in_err-body_check-2.ensures.1
+    ∙ sym (tables-at c.args.file.now c.of-at.ensures
+    ∙ and_then-ok _ (moves-of _ _ _ _ moves.below moves.none c.in_ok-body_check.ensures)
+    ∙ and_then-err _ _ (moves-of _ _ _ _ moves.below moves.none c.in_err-body_check-2.ensures))
 
-pub body_check-classes-requires : goal.body_check-classes-requires
+pub body_check-requires-3 : goal.body_check-requires-3
 unfolding file_length class_record tree_record letter_record
-body_check-classes-requires c = omega arith
+body_check-requires-3 c = omega arith
 
-pub returns-in-Refused-classes : goal.returns-in-Refused-classes
-returns-in-Refused-classes c =
-    refused_says c.body_check-classes.ensures c.in-Refused-classes.is _
-    ∙ sym (passes-rest c.body_check-trees.ensures _ c.in_default-trees.is)
-    ∙ sym (passes-rest c.body_check-letters.ensures _ c.in_default.is)
-    ∙ sym (tables-at c.args.file.now c.of-at.ensures)
+pub returns-in_err-body_check-3 : goal.returns-in_err-body_check-3
+unfolding kind_code
+returns-in_err-body_check-3 c =
+    let moves = c.moves-moves.ensures in
+    handed_on _ _ c.from_residual-in_err-body_check-3.ensures.1
+    ∙ sym (tables-at c.args.file.now c.of-at.ensures
+    ∙ and_then-ok _ (moves-of _ _ _ _ moves.below moves.none c.in_ok-body_check.ensures)
+    ∙ and_then-ok _ (moves-of _ _ _ _ moves.below moves.none c.in_ok-body_check-2.ensures)
+    ∙ and_then-err _ _ c.in_err-body_check-3.ensures)
+
+-- where all three tables pass, the end of the file decides
+module _ (file : List ℕ) {n k : ℕ} {places : Layout} {moves : Range} {a b d : Unit {0}} (layout : IsLayout n k places)
+    (below : moves.below ≡ n) (none : moves.none ≡ true)
+    (letters : says (Ok a) ≡ body_check file (header_length + numbers_length) 2 places.letter_moves moves.below moves.none)
+    (trees : says (Ok b) ≡ body_check file places.tree_record 3 places.tree_moves moves.below moves.none)
+    (classes : says (Ok d) ≡ body_check file places.class_record 4 n class_count false)
+  where
+    all-pass : tables_check file n k ≡ (refuse 5 at places.count when places.count <? length file otherwise given tt)
+    all-pass =
+        tables-at file layout
+        ∙ and_then-ok _ (moves-of _ _ _ _ below none letters)
+        ∙ and_then-ok _ (moves-of _ _ _ _ below none trees)
+        ∙ and_then-ok _ classes
 
 pub returns-then-more : goal.returns-then-more
+unfolding kind_code number_of
 returns-then-more c =
-    c.refuse.ensures
-    ∙ sym (refuse-stops 5 c.of-at.result.count _ (lt-ltb _ _ c.if-more.true))
-    ∙ sym (passes-rest c.body_check-classes.ensures _ c.in_default-classes.is)
-    ∙ sym (passes-rest c.body_check-trees.ensures _ c.in_default-trees.is)
-    ∙ sym (passes-rest c.body_check-letters.ensures _ c.in_default.is)
-    ∙ sym (tables-at c.args.file.now c.of-at.ensures)
+    let moves = c.moves-moves.ensures in
+    refusal-at c.at.ensures.number c.at.ensures.place
+    ∙ sym (all-pass c.args.file.now c.of-at.ensures moves.below moves.none c.in_ok-body_check.ensures c.in_ok-body_check-2.ensures c.in_ok-body_check-3.ensures
+    ∙ refuse-stops 5 c.of-at.result.count _ (lt-ltb _ _ c.if-more.true))
 
 pub returns : goal.returns
-unfolding outcome_says
+unfolding kind_code says
 returns c =
-    sym (refuse-passes 5 c.of-at.result.count _ (le-ltb _ _ c.if-more.false))
-    ∙ sym (passes-rest c.body_check-classes.ensures _ c.in_default-classes.is)
-    ∙ sym (passes-rest c.body_check-trees.ensures _ c.in_default-trees.is)
-    ∙ sym (passes-rest c.body_check-letters.ensures _ c.in_default.is)
-    ∙ sym (tables-at c.args.file.now c.of-at.ensures)
+    let moves = c.moves-moves.ensures in
+    sym (all-pass c.args.file.now c.of-at.ensures moves.below moves.none c.in_ok-body_check.ensures c.in_ok-body_check-2.ensures c.in_ok-body_check-3.ensures
+    ∙ refuse-passes 5 c.of-at.result.count _ (le-ltb _ _ c.if-more.false))

@@ -1,14 +1,16 @@
 -- The lengths of the three tables and then their bytes, at the places that the code counted.
-use Rattle.std.proofs.Common.{◌≡◌, sym, ap, ◌∙◌, true, false, not, ◌+◌, length, arith}
+use Rattle.std.proofs.Common.{◌≡◌, sym, ap, ◌∙◌, Bool, true, false, not, List, ℕ, ◌+◌, length, arith}
 use borrow.Author.Tests.{eq-eqb, ne_eqb}
-use Rattle.meaning.specs.Answers.{refuse◌at◌when◌otherwise◌, ◌and_then◌, ◌=?◌}
+use Rattle.meaning.specs.Calls.{number_of}
+use Rattle.meaning.specs.Answers.{Answer, refused, refuse◌at◌when◌otherwise◌, ◌and_then◌, ◌=?◌}
 use Rattle.meaning.specs.RuleFile as format
 use Rattle.meaning.specs.RuleFile.{table_check, letter_record, tree_record, class_record, file_length, class_count, header_length, numbers_length}
 use Rattle.meaning.proofs.laws.Answered.{refuse-passes, refuse-stops}
+use Rattle.meaning.proofs.laws.Handed.{refusal-at, handed_on, and_then-ok, and_then-err}
 use Rattle.rule.specs.declared.layout.Layout.{Layout}
+use Rattle.rule.specs.declared.range.Range.{Range}
 use Rattle.rule.specs.Places.{IsLayout}
-use Rattle.rule.specs.Checks.{in_range, rule_from, given_check}
-use Rattle.rule.proofs.Outcomes.{passes-rest, refused_says}
+use Rattle.rule.specs.Checks.{in_range, rule_from, parts_rule, given_check}
 use Rattle.rule.proofs.writer.given_check.Goals as goal
 
 -- the check of the given tables, at the places that the code counted
@@ -23,84 +25,99 @@ given-at : (R : format.Rule) {places : Layout} → IsLayout R.states R.letters p
 unfolding given_check letter_record
 given-at R p = rw (p.letter_moves, p.tree_moves, p.tree_place, p.class_place)
 
-pub returns-then-letter_moves-at : goal.returns-then-letter_moves-at
-unfolding rule_from
-returns-then-letter_moves-at c =
-    let a = c.args in
-    let R = rule_from a.states 0 0 a.letters a.letter_moves.now a.tree_moves.now a.classes.now in
-    c.refuse.ensures
-    ∙ sym (given-at R c.of-at.ensures
-    ∙ refuse-stops 3 11 _ (ap not (ne_eqb _ _ c.if-letter_moves-at.true)))
+module _ (R : format.Rule) {places : Layout} (layout : IsLayout R.states R.letters places) where
+  letters-wrong : (length R.letter_moves ≡ places.letter_moves → ⊥) → given_check R ≡ refused 3 11
+  letters-wrong wrong = given-at R layout ∙ refuse-stops 3 11 _ (ap not (ne_eqb _ _ wrong))
 
-pub returns-then-tree_moves-at : goal.returns-then-tree_moves-at
-unfolding rule_from
-returns-then-tree_moves-at c =
-    let a = c.args in
-    let R = rule_from a.states 0 0 a.letters a.letter_moves.now a.tree_moves.now a.classes.now in
-    c.refuse-then-tree_moves-at.ensures
-    ∙ sym (given-at R c.of-at.ensures
-    ∙ refuse-passes 3 11 _ (ap not (eq-eqb _ _ c.if-letter_moves-at.false))
-    ∙ refuse-stops 3 c.of-at.result.tree_record _ (ap not (ne_eqb _ _ c.if-tree_moves-at.true)))
+  module _ (letters : length R.letter_moves ≡ places.letter_moves) where
+    trees-wrong : (length R.tree_moves ≡ places.tree_moves → ⊥) → given_check R ≡ refused 3 places.tree_record
+    trees-wrong wrong =
+        given-at R layout
+        ∙ refuse-passes 3 11 _ (ap not (eq-eqb _ _ letters))
+        ∙ refuse-stops 3 places.tree_record _ (ap not (ne_eqb _ _ wrong))
 
-pub returns-then-classes-states : goal.returns-then-classes-states
-unfolding rule_from
-returns-then-classes-states c =
-    let a = c.args in
-    let R = rule_from a.states 0 0 a.letters a.letter_moves.now a.tree_moves.now a.classes.now in
-    c.refuse-then-classes-states.ensures
-    ∙ sym (given-at R c.of-at.ensures
-    ∙ refuse-passes 3 11 _ (ap not (eq-eqb _ _ c.if-letter_moves-at.false))
-    ∙ refuse-passes 3 c.of-at.result.tree_record _ (ap not (eq-eqb _ _ c.if-tree_moves-at.false))
-    ∙ refuse-stops 3 c.of-at.result.class_record _ (ap not (ne_eqb _ _ c.if-classes-states.true)))
+    module _ (trees : length R.tree_moves ≡ places.tree_moves) where
+      classes-wrong : (length R.classes ≡ R.states → ⊥) → given_check R ≡ refused 3 places.class_record
+      classes-wrong wrong =
+          given-at R layout
+          ∙ refuse-passes 3 11 _ (ap not (eq-eqb _ _ letters))
+          ∙ refuse-passes 3 places.tree_record _ (ap not (eq-eqb _ _ trees))
+          ∙ refuse-stops 3 places.class_record _ (ap not (ne_eqb _ _ wrong))
 
-pub returns-in-Refused : goal.returns-in-Refused
+      -- where the lengths are right, the bytes decide
+      lengths-right : length R.classes ≡ R.states
+          → given_check R
+          ≡ (table_check (in_range R.states true) (header_length + numbers_length + header_length) R.letter_moves and_then
+          table_check (in_range R.states true) (places.tree_record + header_length) R.tree_moves and_then
+          table_check (in_range class_count false) (places.class_record + header_length) R.classes)
+      lengths-right classes =
+          given-at R layout
+          ∙ refuse-passes 3 11 _ (ap not (eq-eqb _ _ letters))
+          ∙ refuse-passes 3 places.tree_record _ (ap not (eq-eqb _ _ trees))
+          ∙ refuse-passes 3 places.class_record _ (ap not (eq-eqb _ _ classes))
+
+-- a table of moves, where the bound and the none of its range are known
+moves-of : (place : ℕ) (body : List ℕ) {good : Range} {below : ℕ} {none : Bool} {answer : Answer Unit}
+    → good.below ≡ below → good.none ≡ none → answer ≡ table_check (in_range good.below good.none) place body
+    → answer ≡ table_check (in_range below none) place body
+moves-of place body b n e = rw (← b, ← n) e
+
+pub returns-then-parts-at : goal.returns-then-parts-at
+unfolding rule_from number_of
+returns-then-parts-at c =
+    refusal-at c.at.ensures.number c.at.ensures.place
+    ∙ sym (letters-wrong (parts_rule c.args.parts) c.of-at.ensures c.if-parts-at.true)
+
+pub returns-then-parts-at-2 : goal.returns-then-parts-at-2
+unfolding rule_from number_of
+returns-then-parts-at-2 c =
+    refusal-at c.at-then-parts-at-2.ensures.number c.at-then-parts-at-2.ensures.place
+    ∙ sym (trees-wrong (parts_rule c.args.parts) c.of-at.ensures c.if-parts-at.false c.if-parts-at-2.true)
+
+pub returns-then-parts-rule : goal.returns-then-parts-rule
+unfolding rule_from number_of
+returns-then-parts-rule c =
+    refusal-at c.at-then-parts-rule.ensures.number c.at-then-parts-rule.ensures.place
+    ∙ sym (classes-wrong (parts_rule c.args.parts) c.of-at.ensures c.if-parts-at.false c.if-parts-at-2.false c.if-parts-rule.true)
+
+pub returns-in_err-table_check : goal.returns-in_err-table_check
 unfolding rule_from
-returns-in-Refused c =
-    let a = c.args in
-    let R = rule_from a.states 0 0 a.letters a.letter_moves.now a.tree_moves.now a.classes.now in
-    refused_says c.table_check-letters_right.ensures c.in-Refused.is _
-    ∙ sym (given-at R c.of-at.ensures
-    ∙ refuse-passes 3 11 _ (ap not (eq-eqb _ _ c.if-letter_moves-at.false))
-    ∙ refuse-passes 3 c.of-at.result.tree_record _ (ap not (eq-eqb _ _ c.if-tree_moves-at.false))
-    ∙ refuse-passes 3 c.of-at.result.class_record _ (ap not (eq-eqb _ _ c.if-classes-states.false)))
+returns-in_err-table_check c =
+    let moves = c.moves-moves.ensures in
+    handed_on _ _ c.from_residual.ensures.1
+    ∙ sym (lengths-right (parts_rule c.args.parts) c.of-at.ensures c.if-parts-at.false c.if-parts-at-2.false c.if-parts-rule.false
+    ∙ and_then-err _ _ (moves-of _ _ moves.below moves.none c.in_err-table_check.ensures))
 
 pub overflow_add-at : goal.overflow_add-at
 unfolding file_length class_record tree_record letter_record
 overflow_add-at c = omega arith
 
-pub table_check-trees_right-requires : goal.table_check-trees_right-requires
+pub table_check-requires-2 : goal.table_check-requires-2
 unfolding file_length class_record tree_record letter_record
-table_check-trees_right-requires c = omega arith
+table_check-requires-2 c = omega arith
 
-pub returns-in-Refused-trees_right : goal.returns-in-Refused-trees_right
+pub returns-in_err-table_check-2 : goal.returns-in_err-table_check-2
 unfolding rule_from
-returns-in-Refused-trees_right c =
-    let a = c.args in
-    let R = rule_from a.states 0 0 a.letters a.letter_moves.now a.tree_moves.now a.classes.now in
-    refused_says c.table_check-trees_right.ensures c.in-Refused-trees_right.is _
-    ∙ sym (given-at R c.of-at.ensures
-    ∙ refuse-passes 3 11 _ (ap not (eq-eqb _ _ c.if-letter_moves-at.false))
-    ∙ refuse-passes 3 c.of-at.result.tree_record _ (ap not (eq-eqb _ _ c.if-tree_moves-at.false))
-    ∙ refuse-passes 3 c.of-at.result.class_record _ (ap not (eq-eqb _ _ c.if-classes-states.false))
-    ∙ passes-rest c.table_check-letters_right.ensures _ c.in_default.is)
+returns-in_err-table_check-2 c =
+    let moves = c.moves-moves.ensures in
+    handed_on _ _ c.from_residual-in_err-table_check-2.ensures.1
+    ∙ sym (lengths-right (parts_rule c.args.parts) c.of-at.ensures c.if-parts-at.false c.if-parts-at-2.false c.if-parts-rule.false
+    ∙ and_then-ok _ (moves-of _ _ moves.below moves.none c.in_ok-table_check.ensures)
+    ∙ and_then-err _ _ (moves-of _ _ moves.below moves.none c.in_err-table_check-2.ensures))
 
 pub overflow_add-at-2 : goal.overflow_add-at-2
 unfolding file_length class_record tree_record letter_record
 overflow_add-at-2 c = omega arith
 
-pub table_check-requires : goal.table_check-requires
+pub table_check-requires-3 : goal.table_check-requires-3
 unfolding file_length class_record tree_record letter_record
-table_check-requires c = omega arith
+table_check-requires-3 c = omega arith
 
 pub returns : goal.returns
 unfolding rule_from
 returns c =
-    let a = c.args in
-    let R = rule_from a.states 0 0 a.letters a.letter_moves.now a.tree_moves.now a.classes.now in
-    c.table_check.ensures
-    ∙ sym (given-at R c.of-at.ensures
-    ∙ refuse-passes 3 11 _ (ap not (eq-eqb _ _ c.if-letter_moves-at.false))
-    ∙ refuse-passes 3 c.of-at.result.tree_record _ (ap not (eq-eqb _ _ c.if-tree_moves-at.false))
-    ∙ refuse-passes 3 c.of-at.result.class_record _ (ap not (eq-eqb _ _ c.if-classes-states.false))
-    ∙ passes-rest c.table_check-letters_right.ensures _ c.in_default.is
-    ∙ passes-rest c.table_check-trees_right.ensures _ c.in_default-trees_right.is)
+    let moves = c.moves-moves.ensures in
+    c.table_check-3.ensures
+    ∙ sym (lengths-right (parts_rule c.args.parts) c.of-at.ensures c.if-parts-at.false c.if-parts-at-2.false c.if-parts-rule.false
+    ∙ and_then-ok _ (moves-of _ _ moves.below moves.none c.in_ok-table_check.ensures)
+    ∙ and_then-ok _ (moves-of _ _ moves.below moves.none c.in_ok-table_check-2.ensures))

@@ -4,6 +4,7 @@ use native.Mathlib.Numerals.{towards_suc}
 use Rattle.std.proofs.Math.ListN.{set}
 use Rattle.std.proofs.Math.Seq.{sets}
 use Rattle.meaning.specs.RuleFile.{bytes2, bytes4}
+use Rattle.rule.specs.Checks.{kind_code}
 use Rattle.rule.specs.Laid.{header_bytes}
 use Rattle.rule.proofs.Laying.{laid-sets}
 use Rattle.rule.proofs.writer.header.Goals as goal
@@ -18,5 +19,5 @@ unfolding header_bytes bytes4 bytes2
 returns c =
     let a = c.args in
     six-stores a.output.now a.place _ _ _ _ _ _
-    ∙ rw (c.low.ensures, c.low-2.ensures, c.low-3.ensures, c.low-4.ensures, c.low-5.ensures, c.low-6.ensures)
-    (laid-sets (header_bytes a.kind a.size) a.output.now a.place (omega arith))
+    ∙ rw (c.low.ensures, c.low-2.ensures, c.low-3.ensures, c.low-4.ensures, c.to_le_bytes.ensures, c.code.ensures)
+    (laid-sets (header_bytes (kind_code a.kind) a.size) a.output.now a.place (omega arith))

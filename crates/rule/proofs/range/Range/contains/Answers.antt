@@ -4,7 +4,7 @@ use borrow.Author.Tests.{lt-ltb, le-ltb}
 use Rattle.meaning.specs.Answers.{◌=?◌}
 use Rattle.meaning.specs.RuleFile.{is_state, is_move, none}
 use Rattle.rule.specs.Checks.{in_range}
-use Rattle.rule.proofs.check.in_range.Goals as goal
+use Rattle.rule.proofs.range.Range.contains.Goals as goal
 
 below-is : (below : ℕ) (none_too : Bool) (x : ℕ) → x < below → in_range below none_too x ≡ true
 unfolding in_range is_state is_move
@@ -19,12 +19,12 @@ above-state : (below x : ℕ) → below ≤ x → in_range below false x ≡ fal
 unfolding in_range is_state
 above-state below x h = le-ltb x below h
 
-pub returns-then-x-below : goal.returns-then-x-below
-returns-then-x-below c =
-    lt-ltb c.args.x c.args.below c.if-x-below.true ∙ sym (below-is c.args.below c.args.none c.args.x c.if-x-below.true)
+pub returns-then-x-self : goal.returns-then-x-self
+returns-then-x-self c =
+    lt-ltb c.args.x c.args.self.below c.if-x-self.true ∙ sym (below-is c.args.self.below c.args.self.none c.args.x c.if-x-self.true)
 
-pub returns-then-none : goal.returns-then-none
-returns-then-none c = rw c.if-none.true (sym (above-move c.args.below c.args.x c.if-x-below.false))
+pub returns-then-self : goal.returns-then-self
+returns-then-self c = rw c.if-self.true (sym (above-move c.args.self.below c.args.x c.if-x-self.false))
 
-pub returns-else-none : goal.returns-else-none
-returns-else-none c = rw c.if-none.false (sym (above-state c.args.below c.args.x c.if-x-below.false))
+pub returns-else-self : goal.returns-else-self
+returns-else-self c = rw c.if-self.false (sym (above-state c.args.self.below c.args.x c.if-x-self.false))
