@@ -1,34 +1,24 @@
 // Readings that are opened, with the rule's own book: the cases with few levels and with a low ceiling.
 use crate::rules::rule_a;
-use crate::stores::{Case, ENOUGH, NO_LEVEL};
-use meaning::Reading;
+use crate::stores::{Case, ENOUGH, reading_and_book};
+use meaning::Level;
 use std::io;
-
-// Rule A's own book.
-pub fn book_a() -> [u64; 4] {
-    let file = rule_a();
-    let mut book = [0; 4];
-    reading::open(&file, &mut book);
-    book
-}
-
-// The reading that opening gives for a rule of up to three states.
-pub fn first_of(file: &[u8]) -> Reading {
-    let mut book = [0; 4];
-    reading::first_of(reading::open(file, &mut book))
-}
 
 pub fn cases(rt: &impl Print) -> io::Result<()> {
     let file = rule_a();
-    let book = book_a();
+    let (_, book) = reading_and_book(&file);
     let skipping = Case::opened(&file, &book);
-    let tree = Case {
+    let one_level = Case {
+        name: "A6 with one level",
         events: &[0, 0, 3, 1, 1],
         ..skipping
     };
-    tree.named("A6 with one level").tell_end(rt, [NO_LEVEL; 1])?;
-    tree.named("A6 with two levels")
-        .tell_end(rt, [NO_LEVEL; 2])?;
+    one_level.tell_end(rt, [Level::default(); 1])?;
+    let two_levels = Case {
+        name: "A6 with two levels",
+        ..one_level
+    };
+    two_levels.tell_end(rt, [Level::default(); 2])?;
     let short = Case {
         events: &[0, 3, 1],
         ..skipping
@@ -66,7 +56,7 @@ pub fn cases(rt: &impl Print) -> io::Result<()> {
         },
     ];
     for case in others {
-        case.tell_end(rt, ENOUGH)?;
+        case.tell_end(rt, [Level::default(); ENOUGH])?;
     }
     Ok(())
 }
@@ -79,5 +69,5 @@ pub fn full_case(rt: &impl Print) -> io::Result<()> {
         events: &[0, 3, 1, 3],
         ..Case::opened(&file, &[0; 4])
     };
-    case.tell_end(rt, ENOUGH)
+    case.tell_end(rt, [Level::default(); ENOUGH])
 }

@@ -3,6 +3,7 @@
 use crate::files::open;
 use crate::rules::{rule_met_later, rule_no_start, rule_with_spare};
 use crate::stores::{Case, ENOUGH};
+use meaning::Level;
 use std::io;
 
 pub fn cases(rt: &impl Print) -> io::Result<()> {
@@ -26,7 +27,7 @@ pub fn cases(rt: &impl Print) -> io::Result<()> {
             events: &[0, 2, 0, 2, 1, 2, 1, 3, 2],
             ..Case::opened(&spare, &book)
         };
-        case.tell_end(rt, ENOUGH)?;
+        case.tell_end(rt, [Level::default(); ENOUGH])?;
     }
     Ok(())
 }

@@ -1,7 +1,8 @@
 // The rule check, the writer and opening: every refusal that they can be brought to give.
 use crate::lines;
 use crate::rules::{longer_a, rule_a, rule_b, rule_c, rule_of_none, rule_of_one};
-use rule::{Rule, writer};
+use rule::Rule;
+use rule::writer::{self, Parts};
 use std::io;
 
 // Rule A with one byte changed.
@@ -44,93 +45,57 @@ pub fn rule_checks(rt: &impl Print) -> io::Result<()> {
     lines::checked(rt, "a byte after the fourth record", Rule::of_file(&longer))
 }
 
-// Rule A written with these numbers and letter moves into an output of so many bytes.
-fn write_a(
-    rt: &impl Print,
-    name: &str,
-    states: u8,
-    initial: u8,
-    start: u8,
-    letters: u16,
-    letter_moves: &[u8],
-    output: &mut [u8],
-) -> io::Result<()> {
-    let tree_moves = [0, 2, 0, 1, 1, 1, 2, 2, 255];
-    let classes = [1, 0, 2];
-    lines::written(
-        rt,
-        name,
-        writer::write(
-            states,
-            initial,
-            start,
-            letters,
-            letter_moves,
-            &tree_moves,
-            &classes,
-            output,
-        ),
-    )
-}
-
 pub fn writings(rt: &impl Print) -> io::Result<()> {
-    let moves = [0, 1, 1, 1, 2, 255];
-    let mut output = [7u8; 64];
-    write_a(rt, "65 states written", 65, 0, 0, 2, &moves, &mut output)?;
-    write_a(
-        rt,
-        "an initial state of n written",
-        3,
-        3,
-        0,
-        2,
-        &moves,
-        &mut output,
-    )?;
-    write_a(
-        rt,
-        "a tree start of n written",
-        3,
-        0,
-        3,
-        2,
-        &moves,
-        &mut output,
-    )?;
-    write_a(rt, "no letter written", 3, 0, 0, 0, &moves, &mut output)?;
-    write_a(
-        rt,
-        "a short table",
-        3,
-        0,
-        0,
-        2,
-        &[0, 1, 1, 1, 2],
-        &mut output,
-    )?;
-    write_a(
-        rt,
-        "a letter move of n written",
-        3,
-        0,
-        0,
-        2,
-        &[0, 1, 1, 3, 2, 255],
-        &mut output,
-    )?;
-    let mut little = [7u8; 46];
-    write_a(
-        rt,
-        "one byte too little room",
-        3,
-        0,
-        0,
-        2,
-        &moves,
-        &mut little,
-    )?;
-    let mut enough = [7u8; 47];
-    write_a(rt, "just enough room", 3, 0, 0, 2, &moves, &mut enough)?;
+    let rule = Rule {
+        states: 3,
+        initial: 0,
+        tree_start: 0,
+        letters: 2,
+    };
+    let right = Parts {
+        rule,
+        letter_moves: &[0, 1, 1, 1, 2, Rule::NONE],
+        tree_moves: &[0, 2, 0, 1, 1, 1, 2, 2, Rule::NONE],
+        classes: &[1, 0, 2],
+    };
+    let with = |rule| Parts { rule, ..right };
+    let wrong = [
+        ("65 states written", with(Rule { states: 65, ..rule })),
+        (
+            "an initial state of n written",
+            with(Rule { initial: 3, ..rule }),
+        ),
+        (
+            "a tree start of n written",
+            with(Rule {
+                tree_start: 3,
+                ..rule
+            }),
+        ),
+        ("no letter written", with(Rule { letters: 0, ..rule })),
+        (
+            "a short table",
+            Parts {
+                letter_moves: &[0, 1, 1, 1, 2],
+                ..right
+            },
+        ),
+        (
+            "a letter move of n written",
+            Parts {
+                letter_moves: &[0, 1, 1, 3, 2, Rule::NONE],
+                ..right
+            },
+        ),
+    ];
+    for (name, parts) in wrong {
+        lines::written(rt, name, writer::write(parts, &mut [7; 64]))?;
+    }
+    let answer = writer::write(right, &mut [7; 46]);
+    lines::written(rt, "one byte too little room", answer)?;
+    let mut enough = [7; 47];
+    let answer = writer::write(right, &mut enough);
+    lines::written(rt, "just enough room", answer)?;
     lines::checked(rt, "what was written", Rule::of_file(&enough))
 }
 

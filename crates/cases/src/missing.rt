@@ -1,31 +1,16 @@
 // A move that is not there: which of the three it is, after 8 and 9, and not where an event is passed over.
 use crate::rules::{rule_b, rule_of_none};
-use crate::stores::{Case, ENOUGH, NO_LEVEL};
-use meaning::Reading;
+use crate::stores::{Case, ENOUGH, at_depth};
+use meaning::Level;
 use std::io;
-
-// A reading with so many levels open, after as many events and looks.
-fn at_depth(depth: u32) -> Reading {
-    Reading {
-        state: 0,
-        depth,
-        skip: 0,
-        taken: depth,
-        looks: depth,
-    }
-}
 
 // One event read in full where the rule has no move at all, over one level.
 fn one_event(rt: &impl Print) -> io::Result<()> {
     let file = rule_of_none();
-    let full = Case::opened(&file, &[0; 4]);
-    let top = Case {
-        reading: at_depth(0),
-        ..full
-    };
+    let top = Case::opened(&file, &[0; 4]);
     let inside = Case {
         reading: at_depth(1),
-        ..full
+        ..top
     };
     let cases = [
         Case {
@@ -74,7 +59,7 @@ fn one_event(rt: &impl Print) -> io::Result<()> {
         },
     ];
     for case in cases {
-        case.tell_fed(rt, [NO_LEVEL; 1])?;
+        case.tell_fed(rt, [Level::default(); 1])?;
     }
     Ok(())
 }
@@ -101,7 +86,7 @@ pub fn moves(rt: &impl Print) -> io::Result<()> {
         },
     ];
     for case in cases {
-        case.tell_fed(rt, ENOUGH)?;
+        case.tell_fed(rt, [Level::default(); ENOUGH])?;
     }
     Ok(())
 }

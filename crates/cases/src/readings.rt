@@ -1,84 +1,48 @@
 // Readings that are none, and the limits of a reading: numbers 6, 13, 16 and 12.
-use crate::documents::book_a;
 use crate::lines;
 use crate::rules::rule_a;
-use crate::stores::{Case, ENOUGH, NO_LEVEL};
+use crate::stores::{Case, ENOUGH, at_depth, reading_and_book};
 use meaning::{Level, Reading};
 use std::io;
 
-// A reading in state 0 at the top, before any event.
-const FRESH: Reading = Reading {
-    state: 0,
-    depth: 0,
-    skip: 0,
-    taken: 0,
-    looks: 0,
-};
-
-// The end of a reading whose second level was opened at another place than the rest.
-fn finish_at(rt: &impl Print, name: &str, reading: Reading, opened: u32) -> io::Result<()> {
-    let mut levels = [Level {
-        above: 0,
-        opened: 9,
-    }; 1024];
-    levels[1].opened = opened;
-    lines::end(
-        rt,
-        name,
-        reading::finish_array(&rule_a(), &book_a(), reading, levels),
-        reading.looks,
-    )
-}
-
-// One event fed.
+// One event fed to a reading, by some book, over levels with a state above them.
 fn feedings(rt: &impl Print) -> io::Result<()> {
     let file = rule_a();
-    let book = book_a();
+    let (fresh, book) = reading_and_book(&file);
     let one = Case {
-        reading: FRESH,
+        name: "a fresh reading",
         events: &[2],
         ..Case::opened(&file, &book)
     };
-    one.named("a fresh reading").tell_fed(rt, ENOUGH)?;
     let short = Case {
+        name: "a book too short to read with",
         book: &[0; 3],
         ..one
     };
-    short
-        .named("a book too short to read with")
-        .tell_fed(rt, ENOUGH)?;
     let out = Case {
-        reading: Reading { state: 3, ..FRESH },
+        name: "a state of n",
+        reading: Reading { state: 3, ..fresh },
         ..one
     };
-    out.named("a state of n").tell_fed(rt, ENOUGH)?;
+    for case in [one, short, out] {
+        case.tell_fed(rt, [Level::default(); ENOUGH])?;
+    }
     let deep = Case {
-        reading: Reading {
-            depth: 3,
-            taken: 3,
-            looks: 3,
-            ..FRESH
-        },
+        name: "three levels in a store of two",
+        reading: at_depth(3),
         ..one
     };
-    deep.named("three levels in a store of two")
-        .tell_fed(rt, [NO_LEVEL; 2])?;
+    deep.tell_fed(rt, [Level::default(); 2])?;
     let stored = Case {
-        reading: Reading {
-            depth: 1,
-            taken: 1,
-            looks: 1,
-            ..FRESH
-        },
+        name: "a stored state of n",
+        reading: at_depth(1),
         ..one
     };
-    stored.named("a stored state of n").tell_fed(
-        rt,
-        [Level {
-            above: 3,
-            opened: 0,
-        }; 1024],
-    )?;
+    let above = Level {
+        above: 3,
+        ..Level::default()
+    };
+    stored.tell_fed(rt, [above; ENOUGH])?;
     let readings = [
         (
             "skipping on an unsettled level",
@@ -86,30 +50,30 @@ fn feedings(rt: &impl Print) -> io::Result<()> {
                 skip: 1,
                 taken: 1,
                 looks: 1,
-                ..FRESH
+                ..fresh
             },
         ),
-        ("more levels than events", Reading { depth: 1, ..FRESH }),
+        ("more levels than events", Reading { depth: 1, ..fresh }),
         (
             "more looks than events",
             Reading {
                 taken: 1,
                 looks: 2,
-                ..FRESH
+                ..fresh
             },
         ),
         (
             "the last event but one",
             Reading {
-                taken: 0xffff_fffe,
-                ..FRESH
+                taken: u32::MAX - 1,
+                ..fresh
             },
         ),
         (
             "all events taken already",
             Reading {
-                taken: 0xffff_ffff,
-                ..FRESH
+                taken: u32::MAX,
+                ..fresh
             },
         ),
     ];
@@ -119,39 +83,45 @@ fn feedings(rt: &impl Print) -> io::Result<()> {
             reading,
             ..one
         };
-        case.tell_fed(rt, ENOUGH)?;
+        case.tell_fed(rt, [Level::default(); ENOUGH])?;
+    }
+    Ok(())
+}
+
+// Ends, over levels of which the second was opened at another place than the rest.
+fn finishings(rt: &impl Print) -> io::Result<()> {
+    let file = rule_a();
+    let (fresh, book) = reading_and_book(&file);
+    let mut levels = [Level {
+        opened: 9,
+        ..Level::default()
+    }; ENOUGH];
+    levels[1].opened = 11;
+    let inside = Reading {
+        taken: 20,
+        looks: 20,
+        ..at_depth(2)
+    };
+    let out = Reading { state: 3, ..fresh };
+    let last = Reading {
+        state: 2,
+        taken: 3,
+        looks: 3,
+        ..fresh
+    };
+    let ends = [
+        ("the innermost opening", inside),
+        ("a state of n at the end", out),
+        ("an end", last),
+    ];
+    for (name, reading) in ends {
+        let end = reading::finish_array(&file, &book, reading, levels);
+        lines::end(rt, name, end, reading.looks)?;
     }
     Ok(())
 }
 
 pub fn refusals(rt: &impl Print) -> io::Result<()> {
     feedings(rt)?;
-    finish_at(
-        rt,
-        "the innermost opening",
-        Reading {
-            depth: 2,
-            taken: 20,
-            looks: 20,
-            ..FRESH
-        },
-        11,
-    )?;
-    finish_at(
-        rt,
-        "a state of n at the end",
-        Reading { state: 3, ..FRESH },
-        0,
-    )?;
-    finish_at(
-        rt,
-        "an end",
-        Reading {
-            state: 2,
-            taken: 3,
-            looks: 3,
-            ..FRESH
-        },
-        0,
-    )
+    finishings(rt)
 }

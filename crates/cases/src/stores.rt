@@ -1,28 +1,35 @@
 // A case of a reading: what it hands the calls, which are made over levels held by value, so many as the case needs.
 ghost use Rattle.cases.specs.Stores.{OutcomeIs};
 
-use crate::documents::first_of;
-use crate::lines;
-use meaning::{End, Fed, Feeding, Level, Reading};
+use crate::lines::{self, Given};
+use meaning::{Fed, Judgement, Level, Reading, Refusal};
 use std::io;
 
-// The largest ceiling.
-const MOST: u32 = 0xffff_ffff;
-
-// A record of no level.
-pub const NO_LEVEL: Level = Level {
-    above: 0,
-    opened: 0,
-};
-
-// Levels enough for a case in which their count decides nothing.
-pub const ENOUGH: [Level; 1024] = [NO_LEVEL; 1024];
+// So many levels that their count decides nothing.
+pub const ENOUGH: usize = 1024;
 
 // What feed answered, and finish after it over the same levels.
 #[derive(Clone, Copy)]
 pub struct Outcome {
     pub fed: Fed,
-    pub end: End,
+    pub end: Result<Judgement, Refusal>,
+}
+
+// The reading that opening gives for a rule of up to three states, and the rule's own book.
+pub fn reading_and_book(file: &[u8]) -> (Reading, [u64; 4]) {
+    let mut book = [0; 4];
+    let answer = reading::open(file, &mut book);
+    (reading::first_of(answer), book)
+}
+
+// A reading with so many levels open, after as many events and looks.
+pub fn at_depth(depth: u32) -> Reading {
+    Reading {
+        depth,
+        taken: depth,
+        looks: depth,
+        ..Reading::default()
+    }
 }
 
 // The name of a case, and what its calls are handed but for the levels.
@@ -43,18 +50,13 @@ impl<'a> Case<'a> {
             name: "",
             file,
             book,
-            ceiling: MOST,
-            reading: first_of(file),
+            ceiling: u32::MAX,
+            reading: reading_and_book(file).0,
             events: &[],
         }
     }
 
-    // The same under a name.
-    pub fn named(self, name: &'a str) -> Case<'a> {
-        Case { name, ..self }
-    }
-
-    // Fed, and then finished.
+    // Fed, and then finished. The levels are lent: `feed_array` at any N asks that what it answers is no larger than memory.
     pub fn over<const N: usize>(self, mut levels: [Level; N]) -> Outcome
         ensures { let case = self.entry in OutcomeIs case.file.now case.book.now case.ceiling case.reading levels.entry case.events.now result }
     {
@@ -72,15 +74,13 @@ impl<'a> Case<'a> {
 
     // How many events feeding took, or what it refused.
     pub fn tell_fed<const N: usize>(self, rt: &impl Print, levels: [Level; N]) -> io::Result<()> {
-        lines::fed(rt, self.name, self.over(levels).fed)
+        let fed = self.over(levels).fed;
+        lines::line(rt, self.name, fed.ended.map(|()| Given::Taken(fed.taken)))
     }
 
     // The end of the reading and its looks, or else what feeding refused.
     pub fn tell_end<const N: usize>(self, rt: &impl Print, levels: [Level; N]) -> io::Result<()> {
         let Outcome { fed, end } = self.over(levels);
-        match fed.ended {
-            Feeding::AllTaken => lines::end(rt, self.name, end, fed.reading.looks),
-            Feeding::Refused(r) => lines::end(rt, self.name, End::Refused(r), 0),
-        }
+        lines::end(rt, self.name, fed.ended.and(end), fed.reading.looks)
     }
 }
