@@ -3,13 +3,11 @@ use mathlib.Core.Path.{◌≡◌, refl, sym, ap, ap₂, ◌∙◌}
 use mathlib.Core.Logic.{⊎_elim}
 use mathlib.Core.Bool.{Bool, true, false, not, ◌||◌}
 use mathlib.Core.List.{List, [], ◌∷◌, ◌++◌}
-use Prim.Native.Nat.{ℕ, zero, suc, ◌+◌, ◌^◌, ◌≤◌, ◌<◌, zero-le, suc-le-suc}
+use Prim.Native.Nat.{ℕ, zero, suc, ◌^◌, ◌≤◌, ◌<◌, zero-le, suc-le-suc}
 use native.Mathlib.Nat.{not-suc-le-zero, le_of_suc-le-suc}
 use native.Mathlib.Omega.{arith}
 use lib.Bits.{bit_and}
-use lib.ListN.{length, get_or, take, drop, set}
-use lib.Seq.{paste}
-use native.Mathlib.Numerals.{one-add, add-one}
+use lib.ListN.{length, get_or, take}
 use borrow.Author.Tests.{eqb-true, eq-eqb, not-true}
 use Rattle.meaning.specs.Answers.{◌=?◌}
 use Rattle.meaning.specs.RuleFile.{Rule, IsRule, tree_move}
@@ -109,11 +107,3 @@ pub book-written : (R : Rule) (still : ℕ) (holds rest : List ℕ) → still �
 unfolding book_of Holds
 book-written R still holds rest e long good =
     ap₂ (λ (w : ℕ) (l : List ℕ). w ∷ (l ++ rest)) e (take-listed R.states holds (λ u. word_of (hold_marks R u)) long good)
-
--- still in front, and then the hold words copied in
-pub copied-in : (book : List ℕ) (still : ℕ) (holds : List ℕ) (n : ℕ) → 0 < length book
-    → paste (set book 0 still) 1 holds n ≡ still ∷ (take n holds ++ drop (n + 1) book)
-copied-in [] still holds n h = absurd (not-suc-le-zero h)
-copied-in (x ∷ book) still holds n h =
-    ap (λ (l : List ℕ). still ∷ (take n holds ++ l))
-    (ap (λ (k : ℕ). drop k (still ∷ book)) (one-add n) ∙ sym (ap (λ (k : ℕ). drop k (x ∷ book)) (add-one n)))

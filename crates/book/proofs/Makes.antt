@@ -1,6 +1,5 @@
--- What the making answers for a rule, case by case, and that its listing is one-to-one, so that two answers that the contract
--- allows agree.
-use mathlib.Core.Path.{◌≡◌, sym, ap, ◌∙◌}
+-- What the making answers for a rule, case by case.
+use mathlib.Core.Path.{◌≡◌, sym, ◌∙◌}
 use mathlib.Core.Bool.{Bool, true, false}
 use mathlib.Core.List.{List}
 use Prim.Native.Nat.{ℕ, ◌+◌, ◌≤◌, ◌<◌}
@@ -9,17 +8,12 @@ use lib.Count.{ones}
 use Rattle.meaning.specs.Answers.{given, refused, refuse◌at◌when◌otherwise◌}
 use Rattle.meaning.specs.RuleFile.{Rule, IsRule, rule_of}
 use Rattle.meaning.specs.SkipBook.{rounds_used_up, still_marks, word_of, make_book, end_marks}
-use Rattle.meaning.specs.Calls.{refusal_says}
-use Rattle.book.specs.declared.Made.{Made}
-use Rattle.book.specs.declared.Made.TheVariants as made
-use Rattle.book.specs.Says.{made_says}
 use Rattle.book.specs.Sets.{Moves, EndsFound, Reached}
 use Rattle.book.proofs.Walked.{states-are}
 use Rattle.book.proofs.EndSet.{all_found}
 use Rattle.rule.specs.declared.Rule as numbers
 use Rattle.rule.specs.Says.{RuleOf}
 use Rattle.meaning.proofs.rulefile.Accepted.{accepted-is-rule}
-use Rattle.meaning.proofs.stores.OneAnswer.{refusal-says}
 use Rattle.meaning.proofs.skipbook.BookLong.{long-passes, short-stops}
 use Rattle.meaning.proofs.laws.Answered.{refuse-stops, refuse-passes}
 
@@ -48,11 +42,3 @@ module _ {file : List ℕ} {rule : numbers.Rule} (ok : RuleOf file rule) {set : 
   pub used-up-is : (b : Bool) → ((R : Rule) → IsRule R → EndsFound R 63 set moves → R.states ≡ rule.states → Reached R 63 reach → b ≡ rounds_used_up R)
       → rounds_used_up (rule_of file) ≡ b
   used-up-is b adds = sym (adds (rule_of file) (accepted-is-rule file ok.accepted) ends (states-are ok) words-found)
-
--- two answers that say the same are the same
-pub made-says : (a b : Made) → made_says a ≡ made_says b → a ≡ b
-unfolding made_says refusal_says
-made-says (made.Still a) (made.Still b) e = cc
-made-says (made.Still a) (made.Refused b) e = cc
-made-says (made.Refused a) (made.Still b) e = cc
-made-says (made.Refused a) (made.Refused b) e = ap made.Refused (refusal-says a b e)

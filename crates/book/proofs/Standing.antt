@@ -1,6 +1,6 @@
 -- Laws of words that stand for sets: the empty set, one member, the join of two, the join of one more, and the set without
 -- its lowest member. Each is a law of bits said of all 64.
-use mathlib.Core.Path.{◌≡◌, refl, sym, ap, ap₂, ◌∙◌, subst}
+use mathlib.Core.Path.{◌≡◌, refl, sym, ap, ap₂, ◌∙◌}
 use mathlib.Core.Logic.{⊎_elim}
 use mathlib.Core.Bool.{Bool, true, false, not, ◌&&◌, ◌||◌, false≢true, or_assoc}
 use mathlib.Core.List.{List}
@@ -8,9 +8,7 @@ use Prim.Native.Nat.{ℕ, ◌+◌, ◌-◌, ◌^◌, ◌≤◌, ◌<◌}
 use native.Mathlib.Nat.{not-suc-le-zero}
 use native.Mathlib.Omega.{arith}
 use native.Mathlib.Numerals.{add-one}
-use lib.ListN.{length, get_or, set, length-set, get_or-eq_default}
-use lib.Seq.{get_or-set_same, get_or-set_other}
-use borrow.Author.Count.{below_none, below_more}
+use lib.ListN.{length, set, get_or-eq_default}
 use lib.Bits.{bit_and, bit_or}
 use lib.Count.{count_trailing_zeros}
 use borrow.Author.Tests.{ltb-true, ltb-false, lt-ltb, eqb-true, eq-eqb}
@@ -20,7 +18,7 @@ use Rattle.meaning.proofs.laws.Answered.{and-true, both_true}
 use Rattle.meaning.proofs.laws.Truths.{truth, same_truth, true-is-not-false, or_cases, or-true-left, or_true_right}
 use Rattle.meaning.proofs.laws.Bools.{last-or-below, below-any, any_below_lem, any-below-fails}
 use Rattle.meaning.proofs.skipbook.Bits.{bit-zero, bit-or, bit-and, bit-only, bit_past, word-of, lowest, cleared, cleared-less}
-use Rattle.book.specs.Sets.{StandsFor, StatesOf, joined, first_of}
+use Rattle.book.specs.Sets.{StandsFor, StatesOf, first_of}
 
 pub stands-empty : StandsFor 0 (λ p. false)
 unfolding StandsFor
@@ -29,6 +27,10 @@ stands-empty p h = bit-zero p
 pub stands-only : (t : ℕ) → StandsFor (2 ^ t) (λ p. t =? p)
 unfolding StandsFor
 stands-only t p h = bit-only t p
+
+stands-at : (w : ℕ) (f : ℕ → Bool) (p : ℕ) → p < 64 → StandsFor w f → bit w p ≡ f p
+unfolding StandsFor
+stands-at w f p h s = s p h
 
 pub stands-or : (v w : ℕ) (f g : ℕ → Bool) → StandsFor v f → StandsFor w g → StandsFor (bit_or v w) (λ p. f p || g p)
 unfolding StandsFor
@@ -124,15 +126,6 @@ pub or-none : (a : Bool) {b : Bool} → b ≡ false → (a || b) ≡ a
 or-none true e = refl
 or-none false e = e
 
--- the lowest member is a state, and so are the others
-pub lowest-state : (n w : ℕ) → 0 < w → w < 2 ^ 64 → StatesOf n w → count_trailing_zeros 64 w < n
-unfolding StatesOf
-lowest-state n w pos h s = s (count_trailing_zeros 64 w) (lowest 64 w pos h).member
-
-pub rest-states : (n w : ℕ) → StatesOf n w → StatesOf n (bit_and w (w - 1))
-unfolding StatesOf
-rest-states n w s p e = s p (and-true (bit w p) _ (sym (bit-and w (w - 1) p) ∙ e)).0
-
 -- where the members are the first n states at most, some member is some of these
 pub members-below : (n w : ℕ) (f : ℕ → Bool) → n ≤ 64 → StatesOf n w
     → any_below 64 (λ m. bit w m && f m) ≡ any_below n (λ m. bit w m && f m)
@@ -143,60 +136,54 @@ members-below n w f few s =
     below-any n (λ m. bit w m && f m) a.0 (s a.0 (and-true (bit w a.0) _ a.2).0) a.2)
     (λ t. let a = any_below_lem n (λ m. bit w m && f m) t in below-any 64 (λ m. bit w m && f m) a.0 (omega (arith, a.1)) a.2)
 
--- ---- a turn that joins what the lowest member has
+-- ---- a walk over the members of a set that joins what each has of its own
 
--- what is joined so far, with what each member of the rest has, is all that is to be joined
-pub record Turn (has : ℕ → ℕ → Bool) (whole : ℕ → Bool) (all rest : ℕ) : Type 0 where
+-- The members that are left are members of the set, and what is joined so far, with what those that are left have, is what all
+-- have.
+pub record Turn (Own : ℕ → ℕ → Type 0) (set all rest : ℕ) : Type 0 where
   pub small : rest < 2 ^ 64
-  pub same : (p : ℕ) → p < 64 → (bit all p || any_below 64 (λ m. bit rest m && has m p)) ≡ whole p
+  pub left : (member : ℕ) → bit rest member ≡ true → bit set member ≡ true
+  pub whole : (has : ℕ → ℕ → Bool) → ((member own : ℕ) → bit set member ≡ true → Own member own → StandsFor own (has member))
+      → (p : ℕ) → p < 64 → (bit all p || any_below 64 (λ m. bit rest m && has m p)) ≡ any_below 64 (λ m. bit set m && has m p)
 
-module _ (has : ℕ → ℕ → Bool) (whole : ℕ → Bool) (all rest : ℕ) where
-  pub turn-next : (more : ℕ) → 0 < rest → StandsFor more (has (count_trailing_zeros 64 rest)) → Turn has whole all rest
-      → Turn has whole (bit_or all more) (bit_and rest (rest - 1))
-  unfolding StandsFor
-  turn-next more pos s t =
-      record {
-        small = omega (arith, cleared-less rest pos, t.small);
-        same = λ p l. let left : Bool = any_below 64 (λ m. bit (bit_and rest (rest - 1)) m && has m p) in
-            ap (λ (b : Bool). b || left) (bit-or all more p ∙ ap (λ (b : Bool). bit all p || b) (s p l))
-            ∙ or_assoc (bit all p) (has (count_trailing_zeros 64 rest) p) left
-            ∙ ap (λ (b : Bool). bit all p || b) (sym (lowest-first rest pos t.small (λ m. has m p)))
-            ∙ t.same p l;
-      }
+module _ (Own : ℕ → ℕ → Type 0) (set : ℕ) where
+  pub turn-first : (rest : ℕ) → rest ≡ set → set < 2 ^ 64 → Turn Own set 0 rest
+  turn-first rest e h =
+      rw e (record {
+        small = h;
+        left = λ member m. m;
+        whole = λ has each p l. ap (λ (b : Bool). b || any_below 64 (λ m. bit set m && has m p)) (bit-zero p);
+      })
 
-  pub turn_last : rest ≡ 0 → Turn has whole all rest → StandsFor all whole
-  unfolding StandsFor
-  turn_last e t p h =
-      sym (or-none (bit all p) (any-below-fails 64 _ (λ m l. ap (λ (w : ℕ). bit w m && has m p) e ∙ ap (λ (b : Bool). b && has m p) (bit-zero m))))
-      ∙ t.same p h
+  module _ (all rest : ℕ) (turn : Turn Own set all rest) where
+    module _ {lowest-one left : ℕ} (taken : (0 < rest) × (lowest-one ≡ count_trailing_zeros 64 rest) × (left ≡ bit_and rest (rest - 1))) where
+      pub turn-member : lowest-one < 64
+      turn-member = omega (arith, (lowest 64 rest taken.0 turn.small).below, taken.1)
 
--- the members of a set joined to it, with a table of what each has
-abbrev pub table_has : List ℕ → ℕ → ℕ → Bool
-table_has table m p = bit (get_or table m 0) p
+      pub turn-next : (own : ℕ) → Own lowest-one own → Turn Own set (bit_or all own) left
+      turn-next own is =
+          let first : ℕ = count_trailing_zeros 64 rest in
+          rw taken.2 (record {
+            small = omega (arith, cleared-less rest taken.0, turn.small);
+            left = λ member m. turn.left member (and-true (bit rest member) _ (sym (bit-and rest (rest - 1) member) ∙ m)).0;
+            whole = λ has each p l. let others : Bool = any_below 64 (λ m. bit (bit_and rest (rest - 1)) m && has m p) in
+                let member = turn.left first (lowest 64 rest taken.0 turn.small).member in
+                ap (λ (b : Bool). b || others) (bit-or all own p ∙ ap (λ (b : Bool). bit all p || b) (stands-at own _ p l (each first own member (rw taken.1 at is))))
+                ∙ or_assoc (bit all p) (has first p) others
+                ∙ ap (λ (b : Bool). bit all p || b) (sym (lowest-first rest taken.0 turn.small (λ m. has m p)))
+                ∙ turn.whole has each p l;
+          })
 
-pub table-first : (table : List ℕ) (set : ℕ) → set < 2 ^ 64 → Turn (table_has table) (joined table set) set set
-unfolding joined
-table-first table set h = record { small = h; same = λ p l. refl }
+    pub turn_last : rest ≡ 0 → (has : ℕ → ℕ → Bool) → ((member own : ℕ) → bit set member ≡ true → Own member own → StandsFor own (has member))
+        → StandsFor all (λ p. any_below 64 (λ m. bit set m && has m p))
+    unfolding StandsFor
+    turn_last e has each p h =
+        sym (or-none (bit all p) (any-below-fails 64 _ (λ m l. ap (λ (w : ℕ). bit w m && has m p) e ∙ ap (λ (b : Bool). b && has m p) (bit-zero m))))
+        ∙ turn.whole has each p h
 
 pub stands-itself : (w : ℕ) → StandsFor w (bit w)
 unfolding StandsFor
 stands-itself w p h = refl
 
--- ---- a table of 64 words that is filled from the front
-
-pub record Filled (P : ℕ → ℕ → Type 0) (i : ℕ) (table : List ℕ) : Type 0 where
-  pub long : length table ≡ 64
-  pub each : (q : ℕ) → q < i → P q (get_or table q 0)
-
-pub filled-first : (P : ℕ → ℕ → Type 0) (table : List ℕ) → length table ≡ 64 → Filled P 0 table
-filled-first P table e = record { long = e; each = below_none (λ q. P q (get_or table q 0)) }
-
-pub filled_next : (P : ℕ → ℕ → Type 0) (i w : ℕ) (table : List ℕ) → i < 64 → Filled P i table → P i w → Filled P (i + 1) (set table i w)
-filled_next P i w table h f here =
-    record {
-      long = length-set table i w ∙ f.long;
-      each =
-          below_more (λ q. P q (get_or (set table i w) q 0)) i
-          (λ q l. subst (P q) (sym (get_or-set_other table i q w 0 (λ e. omega arith))) (f.each q l))
-          (subst (P i) (sym (get_or-set_same table i w 0 (rw f.long h))) here);
-    }
+pub stands-is : {v w : ℕ} → v ≡ w → StandsFor v (bit w)
+stands-is {v} {w} e = rw e (stands-itself w)

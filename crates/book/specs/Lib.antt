@@ -1,3 +1,3 @@
 -- What the contracts of the making cite.
 pub mod Sets
-pub mod Says
+pub mod Members

@@ -2,10 +2,8 @@
 use Rattle.std.specs.Prelude.{◌≡◌, Bool, true, not, ◌&&◌, ◌||◌, List, ℕ, ◌<◌, get_or}
 use Rattle.meaning.specs.Answers.{◌<?◌}
 use Rattle.meaning.specs.RuleFile as format
-use Rattle.meaning.specs.RuleFile.{none, letter_move, tree_move}
+use Rattle.meaning.specs.RuleFile.{letter_move, tree_move}
 use Rattle.meaning.specs.SkipBook.{any_below, goes_to, none_or, one_move, ends_in, reached_in, hold_marks, word_of, bit}
-use Rattle.rule.specs.declared.tables.Move.{Move}
-use Rattle.rule.specs.declared.tables.Move.TheVariants as move
 
 -- a word of 64 bits stands for the states that pass a test
 unfoldable pub StandsFor : ℕ → (ℕ → Bool) → Type 0
@@ -18,11 +16,6 @@ joined table set p = bit set p || any_below 64 (λ m. bit set m && bit (get_or t
 -- only the first n states are members
 unfoldable pub StatesOf : ℕ → ℕ → Type 0
 StatesOf n set = (p : ℕ) → bit set p ≡ true → p < n
-
--- the state that a move leads to, or none
-unfoldable pub state_or_none : Move → ℕ
-state_or_none (move.To state) = state
-state_or_none (move.NoneIn table) = none
 
 -- the states one letter move away, and those one tree move away with lower states from a set
 unfoldable pub by_letters : format.Rule → ℕ → ℕ → Bool

@@ -4,12 +4,11 @@ ghost use Rattle.std.specs.Prelude.{◌≡◌, ◌<◌, ◌≤◌};
 ghost use Rattle.meaning.specs.RuleFile as format;
 ghost use Rattle.meaning.specs.RuleFile.{IsRule, rule_of};
 ghost use Rattle.meaning.specs.SkipBook.{end_marks, rounds_used_up};
-ghost use Rattle.rule.specs.Says.{RuleOf};
 ghost use Rattle.book.specs.Sets.{Moves, EndsFound, Reached, reached_word};
 
 use crate::moves::{letter_moves, target, with_trees};
-use crate::sets::{no_sets, only, with_members};
-use rule::Rule;
+use crate::sets::{only, table_of, with_members};
+use rule::CheckedRule;
 
 // The rounds before the last one.
 const BEFORE_LAST: u8 = 63;
@@ -23,22 +22,19 @@ pub struct TreeEnds {
 
 // The states in which a tree can end, in all rounds before the last. The set of a round is the lower states of the next: the
 // table gets the tree moves of what a round added, so that each tree move is looked at once at most.
-pub fn tree_ends(file: &[u8], rule: Rule) -> TreeEnds
-    requires { RuleOf file.now rule }
-    ensures { EndsFound (rule_of file.now) 63 result.set result.moves }
+pub fn tree_ends(rule: CheckedRule) -> TreeEnds
+    ensures { EndsFound (rule_of rule.entry.file.now) 63 result.set result.moves }
 {
-    let mut set = target(rule::tables::tree_start(rule));
-    let letters = letter_moves(file, rule);
-    let mut moves = with_trees(file, rule, &letters, set);
-    let mut round: u8 = 0;
-    while round < BEFORE_LAST {
+    let mut set = target(rule::tables::tree_start(rule.rule));
+    let letters = letter_moves(rule);
+    let mut moves = with_trees(rule, &letters, set);
+    for _round in 0..BEFORE_LAST {
         let next = with_members(&moves, set);
         if next == set {
             return TreeEnds { set, moves };
         }
-        moves = with_trees(file, rule, &moves, next ^ set);
+        moves = with_trees(rule, &moves, next ^ set);
         set = next;
-        round += 1;
     }
     TreeEnds { set, moves }
 }
@@ -49,14 +45,12 @@ fn reach_from(moves: &[u64; 64], state: u8) -> u64
     ensures { (R : format.Rule) → IsRule R → Moves R (end_marks R) moves.now → state < R.states → result ≡ reached_word R 63 state }
 {
     let mut set = only(state);
-    let mut round: u8 = 0;
-    while round < BEFORE_LAST {
+    for _round in 0..BEFORE_LAST {
         let next = with_members(moves, set);
         if next == set {
             return set;
         }
         set = next;
-        round += 1;
     }
     set
 }
@@ -66,13 +60,7 @@ pub fn reach_from_all(moves: &[u64; 64], states: u8) -> [u64; 64]
     requires { states ≤ 64 }
     ensures { (R : format.Rule) → IsRule R → Moves R (end_marks R) moves.now → R.states ≡ states → Reached R 63 result }
 {
-    let mut table = no_sets();
-    let mut state: u8 = 0;
-    while state < states {
-        table[state as usize] = reach_from(moves, state);
-        state += 1;
-    }
-    table
+    table_of(states, |state| reach_from(moves, state))
 }
 
 // Whether the last round still adds a state, to the set of the tree start or from some state.
@@ -83,13 +71,10 @@ pub fn last_adds(moves: &[u64; 64], ends: u64, reach: &[u64; 64], states: u8) ->
     if with_members(moves, ends) != ends {
         return true;
     }
-    let mut state: u8 = 0;
-    while state < states {
-        let set = reach[state as usize];
-        if with_members(moves, set) != set {
+    for set in &reach[..states as usize] {
+        if with_members(moves, *set) != *set {
             return true;
         }
-        state += 1;
     }
     false
 }

@@ -4,27 +4,19 @@ ghost use Rattle.std.specs.Int.Bits.{bit_and};
 ghost use Rattle.std.specs.Int.Count.{ones};
 ghost use Rattle.meaning.specs.Answers.{◌=?◌};
 ghost use Rattle.meaning.specs.RuleFile.{rule_of};
-ghost use Rattle.meaning.specs.SkipBook.{still_marks, word_of, book_of};
-ghost use Rattle.rule.specs.Says.{RuleOf};
+ghost use Rattle.meaning.specs.SkipBook.{still_marks, hold_marks, word_of, book_of};
 ghost use Rattle.book.specs.Sets.{StandsFor, first_of, Reached, Holds};
 
 use crate::moves::changes;
-use crate::sets::{no_sets, only, with};
-use rule::Rule;
+use crate::sets::{only, states_with, table_of};
+use rule::CheckedRule;
 
 // The states whose reach is themselves alone.
 fn still_word(reach: &[u64; 64], states: u8) -> u64
     requires { states ≤ 64 }
     ensures { StandsFor result (first_of states (λ q. get_or reach.now q 0 =? 2 ^ q)) }
 {
-    let mut set: u64 = 0;
-    let mut state: u8 = 0;
-    while state < states {
-        let own = only(state);
-        set = with(set, own, reach[state as usize] == own);
-        state += 1;
-    }
-    set
+    states_with(states, |state| reach[state as usize] == only(state))
 }
 
 // The states whose reach has none of the states that change the level above.
@@ -32,30 +24,21 @@ fn hold_word(reach: &[u64; 64], states: u8, change: u64) -> u64
     requires { states ≤ 64 }
     ensures { StandsFor result (first_of states (λ p. bit_and (get_or reach.now p 0) change =? 0)) }
 {
-    let mut set: u64 = 0;
-    let mut state: u8 = 0;
-    while state < states {
-        let own = only(state);
-        set = with(set, own, reach[state as usize] & change == 0);
-        state += 1;
-    }
-    set
+    states_with(states, |state| reach[state as usize] & change == 0)
 }
 
 // hold(u) for each state u.
-fn hold_words(file: &[u8], rule: Rule, reach: &[u64; 64]) -> [u64; 64]
-    requires { RuleOf file.now rule }
+fn hold_words(rule: CheckedRule, reach: &[u64; 64]) -> [u64; 64]
     ensures long { length result ≡ 64 }
-    ensures holds { Reached (rule_of file.now) 64 reach.now → Holds (rule_of file.now) result }
+    ensures holds { Reached (rule_of rule.entry.file.now) 64 reach.now → Holds (rule_of rule.entry.file.now) result }
 {
-    let mut table = no_sets();
-    let states = rule.states;
-    let mut upper: u8 = 0;
-    while upper < states {
-        table[upper as usize] = hold_word(reach, states, changes(file, rule, upper));
-        upper += 1;
-    }
-    table
+    table_of(
+        rule.rule.states,
+        |upper|
+            requires { upper < rule.rule.states }
+            ensures { Reached (rule_of rule.entry.file.now) 64 reach.entry.now → result ≡ word_of (hold_marks (rule_of rule.entry.file.now) upper) }
+        { hold_word(reach, rule.rule.states, changes(rule, upper)) },
+    )
 }
 
 // Word 0 is still, and word 1+u is hold(u). The words past them stay.
@@ -65,26 +48,22 @@ fn write_words(book: &mut [u64], still: u64, holds: &[u64; 64], states: u8)
     requires long { length holds.now ≡ 64 }
     ensures { book.new ≡ still ∷ (take states holds.now ++ drop (states + 1) book.old) }
 {
+    let count = states as usize;
     book[0] = still;
-    let mut upper: u8 = 0;
-    while upper < states {
-        book[1 + upper as usize] = holds[upper as usize];
-        upper += 1;
-    }
+    book[1..1 + count].copy_from_slice(&holds[..count]);
 }
 
 // The book of a rule whose Reach is found, made in its own room and then written. The answer is how many states are still,
 // counted as the ones in that word.
-pub fn write_book(file: &[u8], rule: Rule, reach: &[u64; 64], book: &mut [u64]) -> u32
-    requires rule_of { RuleOf file.now rule }
-    requires room { rule.states < length book.old }
-    requires reached { Reached (rule_of file.now) 64 reach.now }
-    ensures still_count { result ≡ ones (word_of (still_marks (rule_of file.now))) }
-    ensures book_after { book.new ≡ book_of (rule_of file.now) ++ drop (rule.states + 1) book.old }
+pub fn write_book(rule: CheckedRule, reach: &[u64; 64], book: &mut [u64]) -> u32
+    requires room { rule.rule.states < length book.old }
+    requires reached { Reached (rule_of rule.file.now) 64 reach.now }
+    ensures still_count { result ≡ ones (word_of (still_marks (rule_of rule.entry.file.now))) }
+    ensures book_after { book.new ≡ book_of (rule_of rule.entry.file.now) ++ drop (rule.entry.rule.states + 1) book.old }
 {
-    let states = rule.states;
+    let states = rule.rule.states;
     let still = still_word(reach, states);
-    let holds = hold_words(file, rule, reach);
+    let holds = hold_words(rule, reach);
     write_words(book, still, &holds, states);
     u64::count_ones(still)
 }

@@ -1,20 +1,18 @@
 -- One turn of feeding keeps what is left to come: an event that is taken, one that is refused, and a run that is passed over.
 -- What was a reading still is one, and each event that is taken is one more.
+use Rattle.std.proofs.Common.{Option, Some, None, Result, Ok, Err}
 use mathlib.Core.Path.{◌≡◌, refl, sym, ◌∙◌}
-use mathlib.Core.Bool.{Bool}
 use mathlib.Core.List.{List, [], ◌∷◌}
 use Prim.Native.Nat.{ℕ, ◌+◌, ◌-◌, ◌≤◌, ◌<◌}
 use native.Mathlib.Numerals.{add-one}
 use native.Mathlib.Omega.{arith}
-use lib.ListN.{length, get_or, drop, set, drop_of_length-le, length-set}
+use lib.ListN.{length, get_or, drop, drop_of_length-le, length-set}
 use lib.Seq.{drop-cons}
 use Rattle.meaning.specs.Answers.{Answer, given}
 use Rattle.meaning.specs.RuleFile.{rule_of}
 use Rattle.meaning.specs.FullReading.{Went, feed_by}
 use Rattle.meaning.specs.Skipping.{held, settled}
-use Rattle.meaning.specs.Calls.{Stored, top_of, store_step, refusal_says, feeding_says}
-use Rattle.meaning.specs.declared.Feeding.{Feeding}
-use Rattle.meaning.specs.declared.Feeding.TheVariants as feeding
+use Rattle.meaning.specs.Calls.{Stored, top_of, store_step, refusal_says, says}
 use Rattle.meaning.specs.declared.Level.{Level}
 use Rattle.meaning.specs.declared.Reading.{Reading}
 use Rattle.meaning.specs.declared.Refusal.{Refusal}
@@ -22,12 +20,15 @@ use Rattle.meaning.proofs.rulefile.Accepted.{accepted-is-rule}
 use Rattle.meaning.proofs.laws.FeedLaws.{feed-taken, feed-refused, feed-none}
 use Rattle.meaning.proofs.stores.KeptReading.{IsReading, reading-is, event-keeps-reading}
 use Rattle.rule.specs.declared.Rule.{Rule}
+use Rattle.turning.specs.Readings.{StatesIn, Counted}
 use Rattle.turning.specs.Turns.{Ready, Stands, Feeds, over}
 use Rattle.turning.specs.PassingOver.{passed_on, PassesOver}
-use Rattle.turning.specs.Advancing.{rest_of, rest, CanGoOn, Advances, Gone}
+use Rattle.turning.specs.Advancing.{rest_of, rest, stored, CanGoOn, Advances, Gone}
 use Rattle.turning.specs.declared.Advance.{Advance}
+use Rattle.turning.specs.declared.Entry.{Entry}
 use Rattle.turning.specs.declared.Going.{Going}
 use Rattle.turning.specs.declared.PassedTo.{PassedTo}
+use Rattle.turning.specs.declared.settling.Settled.{Settled}
 use Rattle.meaning.proofs.stores.Took.{step-taken}
 use Rattle.turning.proofs.PassesOn.{on-settled}
 use Rattle.turning.proofs.Turned.{letters-are}
@@ -36,21 +37,19 @@ use Rattle.turning.proofs.Steps.{reading-in, turn-ready}
 -- ---- a run that was passed over leaves a reading
 
 -- the next event may count on what the run could count on
-pub passed-ready : {file : List ℕ} {rule : Rule} {book : List ℕ} {r : Reading} {top : Level} {events : List ℕ} {next : ℕ} {p : PassedTo}
-    → PassesOver rule.letters book r top events next p → Ready file rule book r top → Ready file rule book p.reading top
+pub passed-readings : {rule : Rule} {book : List ℕ} {r : Reading} {top : Level} {events : List ℕ} {next : ℕ} {p : PassedTo}
+    → PassesOver rule.letters book r top events next p → StatesIn rule r top → Counted r
+    → StatesIn rule p.reading top × Counted p.reading
 unfolding passed_on
-passed-ready o h =
-    rw o.same
-    (record {
-      ruled = h.ruled;
-      book_long = h.book_long;
-      states = record { state_in = h.states.state_in; above_in = h.states.above_in };
-      counted = record { levels_taken = o.nested; looks_taken = omega (arith, h.counted.looks_taken) };
-    })
+passed-readings o states counted =
+    rw o.same (
+      record { state_in = states.state_in; above_in = states.above_in },
+      record { levels_taken = o.nested; looks_taken = omega (arith, counted.looks_taken) },
+    )
 
 -- and the level stands as it stood
-pub passed-stands : {k : ℕ} {book : List ℕ} {r : Reading} {top : Level} {events : List ℕ} {next : ℕ} {p : PassedTo} {is_held is_settled : Bool}
-    → PassesOver k book r top events next p → Stands book r top is_held is_settled → Stands book p.reading top is_held is_settled
+pub passed-stands : {k : ℕ} {book : List ℕ} {r : Reading} {top : Level} {events : List ℕ} {next : ℕ} {p : PassedTo} {level : Settled}
+    → PassesOver k book r top events next p → Stands book r top level → Stands book p.reading top level
 unfolding passed_on held settled
 passed-stands o s = rw o.same (record { held_is = s.held_is; settled_is = s.settled_is })
 
@@ -90,7 +89,7 @@ module _ {file : List ℕ} {rule : Rule} {book : List ℕ} {r : Reading} {store 
 -- ---- the turns
 
 module _ {file : List ℕ} {rule : Rule} {book : List ℕ} (ceiling : ℕ) {r : Reading} {store : List Level} (h : Feeds file rule book r store)
-    (events : List ℕ) {next : ℕ} (inside : next < length events) (place : ℕ) (level : Level) where
+    (events : List ℕ) {next : ℕ} (inside : next < length events) (stores : Option Entry) where
   abbrev before : Stored
   before = over r store
 
@@ -103,11 +102,11 @@ module _ {file : List ℕ} {rule : Rule} {book : List ℕ} (ceiling : ℕ) {r : 
 
   -- the event is taken
   pub takes : (after : Reading) {store' : List Level} → store_step (rule_of file) book ceiling before event ≡ given (over after store')
-      → set store place level ≡ store'
+      → stored stores store ≡ store'
       → Advances file rule book ceiling store r events next
-      (record { going = record { reading = after; next = next + 1; ended = feeding.AllTaken }; place = place; level = level })
+      (record { going = record { reading = after; next = next + 1; ended = Ok tt }; stores = stores })
   unfolding rest_of rest
-  takes after {store'} said stored =
+  takes after {store'} said laid =
       let t : Stored = over after store' in
       let still : Feeds file rule book after store' =
       record {
@@ -118,35 +117,35 @@ module _ {file : List ℕ} {rule : Rule} {book : List ℕ} (ceiling : ℕ) {r : 
       record {
         further = omega arith;
         more = omega (arith, step-taken (rule_of file) book ceiling before t event said);
-        goes = record { within = omega arith; taken = λ _. refl; feeds = λ _. rw stored still };
-        comes = rw stored (sym (feed-taken _ _ said) ∙ first);
+        goes = record { within = omega arith; taken = λ _. refl; feeds = λ _. rw laid still };
+        comes = rw laid (sym (feed-taken _ _ said) ∙ first);
       }
 
   -- the event is refused
-  pub refuses : (f : Refusal) → store_step (rule_of file) book ceiling before event ≡ refusal_says f → set store place level ≡ store
+  pub refuses : (f : Refusal) → store_step (rule_of file) book ceiling before event ≡ refusal_says f → stored stores store ≡ store
       → Advances file rule book ceiling store r events next
-      (record { going = record { reading = r; next = length events; ended = feeding.Refused f }; place = place; level = level })
+      (record { going = record { reading = r; next = length events; ended = Err f }; stores = stores })
   unfolding rest_of rest refusal_says
-  refuses f said stored =
+  refuses f said laid =
       record {
         further = inside;
         more = omega arith;
         goes = record { within = omega arith; taken = λ less. absurd (omega arith); feeds = λ less. absurd (omega arith) };
-        comes = rw stored (sym (feed-refused _ _ said) ∙ first);
+        comes = rw laid (sym (feed-refused _ _ said) ∙ first);
       }
 
   -- all that is left is passed over
   pub passes-all : {p : PassedTo} → PassesOver rule.letters book r (top_of r store) events next p → length events ≤ p.next
-      → set store place level ≡ store
+      → stored stores store ≡ store
       → Advances file rule book ceiling store r events next
-      (record { going = record { reading = p.reading; next = p.next; ended = feeding.AllTaken }; place = place; level = level })
+      (record { going = record { reading = p.reading; next = p.next; ended = Ok tt }; stores = stores })
   unfolding rest_of rest
-  passes-all o all stored =
+  passes-all o all laid =
       record {
         further = omega arith;
         more = passed-more h o;
         goes = record { within = o.within; taken = λ _. refl; feeds = λ less. absurd (omega arith) };
-        comes = rw stored (sym (o.feeds (rule_of file) ceiling store (letters-are h.ruled) refl));
+        comes = rw laid (sym (o.feeds (rule_of file) ceiling store (letters-are h.ruled) refl));
       }
 
 -- what is passed over, and then a turn
@@ -165,10 +164,16 @@ passes_on {file} {rule} {book} ceiling {r} {store} h events o a =
 
 -- ---- turn by turn
 
-rest_of-none : (x : Feeding) (step : Stored → ℕ → Answer Stored) (s : Stored) → rest_of x s (feed_by step s []) ≡ record { last = s; ended = feeding_says x }
-unfolding rest_of feeding_says
-rest_of-none feeding.AllTaken step s = feed-none step s
-rest_of-none (feeding.Refused f) step s = refl
+rest_of-none : (x : Result Unit Refusal) (step : Stored → ℕ → Answer Stored) (s : Stored) → rest_of x s (feed_by step s []) ≡ record { last = s; ended = says x }
+unfolding rest_of says
+rest_of-none (Ok u) step s = feed-none step s
+rest_of-none (Err f) step s = refl
+
+-- storing keeps the store's length
+stored-length : (stores : Option Entry) (store : List Level) → length (stored stores store) ≡ length store
+unfolding stored
+stored-length None store = refl
+stored-length (Some e) store = length-set store e.place e.level
 
 module _ (file : List ℕ) (rule : Rule) (book : List ℕ) (ceiling : ℕ) (events : List ℕ) (start : Going) (store₀ : List Level) where
   abbrev all : Went Stored
@@ -193,7 +198,7 @@ module _ (file : List ℕ) (rule : Rule) (book : List ℕ) (ceiling : ℕ) (even
     pub underway-next : g.next < length events → (a : Advance)
         → ((other : List Level) → Feeds file rule book g.reading other → top_of g.reading other ≡ top_of g.reading store → length other ≡ length store₀
         → Advances file rule book ceiling other g.reading events g.next a)
-        → Underway a.going (set store a.place a.level)
+        → Underway a.going (stored a.stores store)
     unfolding rest rest_of
     underway-next inside a says =
         let made = says store (u.goes.feeds inside) refl u.same_room in
@@ -201,7 +206,7 @@ module _ (file : List ℕ) (rule : Rule) (book : List ℕ) (ceiling : ℕ) (even
           goes = made.goes;
           comes = made.comes ∙ (sym (rw (u.goes.taken inside, rest_of)) ∙ u.comes);
           more = omega (arith, u.more, made.more);
-          same_room = length-set store a.place a.level ∙ u.same_room;
+          same_room = stored-length a.stores store ∙ u.same_room;
         }
 
     -- no event is left

@@ -1,15 +1,15 @@
--- Passing over on a settled level by counting, which its loop keeps: feeding from here comes to what feeding from the start
--- comes to. One known event that does not end the level is taken without a look, and only the skip depth and the events taken
--- change, so the level stays settled.
-use mathlib.Core.Path.{◌≡◌, refl, ap, ◌∙◌}
+-- Passing over on a settled level by counting: feeding from where it was left comes to what feeding from the start comes to. One
+-- known event that does not end the level is taken without a look, and only the skip depth and the events taken change, so the
+-- level stays settled.
+use mathlib.Core.Path.{◌≡◌, refl, ◌∙◌}
 use mathlib.Core.Bool.{true}
-use mathlib.Core.List.{List}
+use mathlib.Core.List.{List, [], ◌∷◌, ◌++◌}
 use Prim.Native.Nat.{ℕ, zero, suc, ◌+◌, ◌-◌, ◌≤◌, ◌<◌}
-use native.Mathlib.Numerals.{add-one}
 use native.Mathlib.Omega.{arith}
 use borrow.Author.Tests.{lt-ltb, lt-leb}
-use lib.ListN.{length, get_or, take, drop, length-take}
-use lib.Seq.{drop-cons, take-take}
+use lib.ListN.{length, take, drop, length-take, length-drop, take-append-drop}
+use lib.Seq.{take-take, drop-drop}
+use Rattle.std.proofs.lemmas.List.Elements.{All-head, All-tail}
 use Rattle.meaning.specs.Answers.{given}
 use Rattle.meaning.specs.RuleFile.{Rule}
 use Rattle.meaning.specs.FullReading.{most_events, event_of, known_event, stays, feed_by}
@@ -20,10 +20,9 @@ use Rattle.meaning.specs.declared.Reading.{Reading}
 use Rattle.meaning.proofs.laws.FeedLaws.{feed-taken}
 use Rattle.meaning.proofs.laws.Answered.{if-true, refuse-passes, giving-passes}
 use Rattle.turning.specs.Turns.{over}
-use Rattle.turning.specs.PassingOver.{openings, closings, unknowns, total, Passing, PassedIn, passed_on, PassesOver}
-use Rattle.turning.specs.declared.PassedTo.{PassedTo}
+use Rattle.turning.specs.PassingOver.{openings, closings, AllPassed, PassedIn, passed_on, PassesOver}
 use Rattle.turning.specs.declared.passing.Passed.{Passed}
-use Rattle.turning.proofs.Counting.{opens_one, opens-none, opens-few, closes-one, closes-none, known-cons, passing-nil, passing-cons}
+use Rattle.turning.proofs.Counting.{opens_one, opens-none, closes-one, closes-none, passing-nil, passing-cons, passing-few}
 
 -- ---- one event
 
@@ -62,104 +61,65 @@ pass_step R book ceiling r store e is more known h =
 
 -- ---- a run of events
 
--- the level stays settled
-pub on-settled : (book : List ℕ) (r : Reading) (store : List Level) (skip count : ℕ) → settled book r (top_of r store) ≡ true
-    → settled book (passed_on r skip count) (top_of (passed_on r skip count) store) ≡ true
-unfolding settled held top_of passed_on
-on-settled book r store skip count is = is
-
 -- one event more
-on-more : (r : Reading) (skip skip' count count' : ℕ) → count + 1 ≡ count'
-    → passed (passed_on r skip count) (passed_on r skip count).state (passed_on r skip count).depth skip' ≡ passed_on r skip' count'
+passed-more : (r : Reading) (skip skip' count : ℕ) → passed_on (passed r r.state r.depth skip) skip' count ≡ passed_on r skip' (suc count)
 unfolding passed passed_on
-on-more r skip skip' count count' e = let n : r.taken + count + 1 ≡ r.taken + count' = omega arith in rw n
+passed-more r skip skip' count = let n : r.taken + 1 + count ≡ r.taken + suc count = omega arith in rw n
 
 -- no event
 on_none : (r : Reading) → passed_on r r.skip 0 ≡ r
 unfolding passed_on
 on_none r = let n : r.taken + 0 ≡ r.taken = omega arith in rw n
 
-module _ (k : ℕ) (r : Reading) (events : List ℕ) (from : ℕ) where
-  pub record Passes (skip i : ℕ) : Type 0 where
-    pub further : from ≤ i
-    pub within : i ≤ length events
-    pub nested : r.depth + skip ≤ r.taken + (i - from)
-    pub feeds : (book : List ℕ) (R : Rule) (ceiling : ℕ) (store : List Level) → R.letters ≡ k
-        → settled book r (top_of r store) ≡ true
-        → feed_by (store_step R book ceiling) (over r store) (drop from events)
-        ≡ feed_by (store_step R book ceiling) (over (passed_on r skip (i - from)) store) (drop i events)
+-- the level stays settled
+pub on-settled : (book : List ℕ) (r : Reading) (store : List Level) (skip count : ℕ) → settled book r (top_of r store) ≡ true
+    → settled book (passed_on r skip count) (top_of (passed_on r skip count) store) ≡ true
+unfolding settled held top_of passed_on
+on-settled book r store skip count is = is
 
-  pub passes-start : from ≤ length events → r.depth + r.skip ≤ r.taken → Passes r.skip from
-  passes-start within nested =
-      let n : from - from ≡ 0 = omega arith in
-      record {
-        further = omega arith;
-        within = within;
-        nested = omega arith;
-        feeds = λ book R ceiling store letters is. rw (n, on_none r);
-      }
+module _ (R : Rule) (book : List ℕ) (ceiling : ℕ) (store : List Level) where
+  feeds-past : (r : Reading) (skip' : ℕ) (run rest : List ℕ) → settled book r (top_of r store) ≡ true → r.taken + length run ≤ most_events
+      → AllPassed (R.letters + 2) r.skip run skip'
+      → feed_by (store_step R book ceiling) (over r store) (run ++ rest)
+      ≡ feed_by (store_step R book ceiling) (over (passed_on r skip' (length run)) store) rest
+  unfolding passed passed_on
+  feeds-past r skip' [] rest is limit h = rw (← passing-nil h.passing, on_none r)
+  feeds-past r skip' (e ∷ es) rest is limit h =
+      let known : e < R.letters + 2 = All-head (λ e. e < R.letters + 2) e es h.all_known in
+      let one = passing-cons h.passing in
+      let skip : ℕ = r.skip + openings e - closings e in
+      let next : Reading = passed r r.state r.depth skip in
+      feed-taken _ (es ++ rest) (pass_step R book ceiling r store e is (omega arith) known one.0)
+      ∙ feeds-past next skip' es rest (on-settled book r store skip 1 is) (omega arith)
+      (record { all_known = All-tail (λ e. e < R.letters + 2) e es h.all_known; passing = one.1 })
+      ∙ rw (passed-more r skip skip' (length es))
 
-  pub passes_on : (skip i : ℕ) → Passes skip i → i < length events → r.taken + (i - from) < most_events
-      → get_or events i 0 < k + 2 → closings (get_or events i 0) ≤ skip
-      → Passes (skip + openings (get_or events i 0) - closings (get_or events i 0)) (i + 1)
-  unfolding passed_on
-  passes_on skip i p inside more known h =
-      let e : ℕ = get_or events i 0 in
-      let at : Reading = passed_on r skip (i - from) in
-      let next : ℕ = skip + openings e - closings e in
-      record {
-        further = omega (arith, p.further);
-        within = omega arith;
-        nested = omega (arith, p.nested, p.further, opens-few e);
-        feeds = λ book R ceiling store letters is.
-            p.feeds book R ceiling store letters is
-            ∙ (rw (drop-cons events i 0 inside, add-one i)
-            (feed-taken _ _ (pass_step R book ceiling at store e (on-settled book r store skip (i - from) is) more (rw letters known) h))
-            ∙ ap (λ s. feed_by (store_step R book ceiling) (over s store) (drop (i + 1) events)) (on-more r skip next (i - from) (i + 1 - from) (omega (arith, p.further))));
-      }
-
-  -- a run that is passed over by counting
-  pub passes-run : (n skip skip' i : ℕ) → Passes skip i → i + n ≤ length events → r.taken + (i + n - from) ≤ most_events
-      → total (unknowns (k + 2)) (take n (drop i events)) ≡ 0 → Passing skip (take n (drop i events)) skip' → Passes skip' (i + n)
-  passes-run zero skip skip' i p within limit known q =
-      let n : i + 0 ≡ i = omega arith in
-      rw (n, ← passing-nil q) p
-  passes-run (suc n) skip skip' i p within limit known q =
-      let inside : i < length events = omega arith in
-      let split = drop-cons events i 0 inside in
-      let is = known-cons (k + 2) _ _ (rw split at known) in
-      let one = passing-cons (rw split at q) in
-      let m : i + suc n ≡ i + 1 + n = omega arith in
-      rw m
-      (passes-run n _ skip' (i + 1) (passes_on skip i p inside (omega (arith, p.further)) is.0 one.0) (omega arith) (omega arith)
-      (rw (add-one i) is.1) (rw (add-one i) one.1))
-
-  -- a block of them, as far as it was passed over, within what the reading can still take
-  pub passes-block : (skip i stop end : ℕ) (q : Passed) → Passes skip i → i ≤ stop → stop ≤ end → end ≤ length events
-      → r.taken + (end - from) ≤ most_events → PassedIn (k + 2) skip (take (stop - i) (drop i events)) q
-      → (i + q.count ≤ stop) × Passes q.skip (i + q.count)
-  passes-block skip i stop end q p before near within limit is =
-      let rest = drop i events in
-      let long = length-take (stop - i) rest in
-      let same = take-take q.count (stop - i) rest (omega (arith, is.within)) in (
-        omega (arith, is.within),
-        passes-run q.count skip _ i p (omega (arith, is.within)) (omega (arith, is.within, p.further)) (rw same at is.all_known) (rw same at is.passing),
-      )
-
-  -- where passing over was left
-  pub passes-left : (skip i : ℕ) (p : PassedTo) → Passes skip i → p.reading ≡ passed_on r skip (i - from) → p.next ≡ i
-      → (book : List ℕ) (top : Level) → settled book r top ≡ true → PassesOver k book r top events from p
-  unfolding passed_on
-  passes-left skip i p h there next book top is =
-      let same : p.reading.skip ≡ skip = ap (λ (s : Reading). s.skip) there in
-      record {
-        further = rw next h.further;
-        within = rw next h.within;
-        same = rw (there, next);
-        nested = rw (there, next) h.nested;
-        stays_settled = λ skips deep. is;
-        feeds = λ R ceiling store letters is_top. rw (there, next) (h.feeds book R ceiling store letters (rw is_top is));
-      }
+-- the first events of what is left, passed over by counting, within what the reading can still take
+pub passes_over : (k : ℕ) (book : List ℕ) (r : Reading) (top : Level) (events : List ℕ) (from count : ℕ) (q : Passed)
+    → r.depth + r.skip ≤ r.taken → from ≤ length events → r.taken + length (take count (drop from events)) ≤ most_events
+    → PassedIn (k + 2) r.skip (take count (drop from events)) q → settled book r top ≡ true
+    → PassesOver k book r top events from (record { reading = passed_on r q.skip q.count; next = from + q.count })
+unfolding passed_on
+passes_over k book r top events from count q nested before limit h is =
+    let rest : List ℕ = drop from events in
+    let run : List ℕ = take q.count rest in
+    let m = length-take count rest in
+    let same = take-take q.count count rest (omega (arith, h.within)) in
+    let all : AllPassed (k + 2) r.skip run q.skip = rw same at h.passed in
+    let long : length run ≡ q.count = omega (arith, length-take q.count rest, length-drop from events, h.within) in
+    let gone : from + q.count - from ≡ q.count = omega arith in
+    record {
+      further = omega arith;
+      within = omega (arith, length-drop from events, h.within);
+      same = rw gone;
+      nested = omega (arith, passing-few all.passing);
+      stays_settled = λ skips deep. is;
+      feeds = λ R ceiling store letters is_top.
+          let past = feeds-past R book ceiling store r q.skip run (drop q.count rest) (rw is_top is) (omega (arith, h.within)) (rw letters all) in
+          let split : run ++ drop q.count rest ≡ rest = take-append-drop q.count rest in
+          let left : drop q.count rest ≡ drop (from + q.count) events = drop-drop q.count from events in
+          (rw (split, long, left) at past);
+    }
 
 -- nothing was passed over
 pub passes_none : (k : ℕ) (book : List ℕ) (r : Reading) (top : Level) (events : List ℕ) (i : ℕ) → i ≤ length events

@@ -1,5 +1,6 @@
 -- One event over the level store, from what its turn says: the turn may count on what number 13 lets through, and what it
 -- says becomes of reading and store is the definition's step.
+use Rattle.std.proofs.Common.{Result}
 use mathlib.Core.Path.{◌≡◌}
 use mathlib.Core.Bool.{true}
 use mathlib.Core.List.{List}
@@ -17,6 +18,7 @@ use Rattle.meaning.specs.declared.Level.{Level}
 use Rattle.meaning.proofs.stores.KeptReading.{IsReading, is-reading}
 use Rattle.rule.specs.declared.Rule.{Rule}
 use Rattle.turning.specs.declared.Turn.{Turn}
+use Rattle.meaning.specs.declared.reason.Reason.{Reason}
 use Rattle.turning.specs.Turns.{turn_says, Ready, Feeds, over}
 use Rattle.turning.proofs.Turned.{states-are}
 
@@ -47,7 +49,7 @@ module _ {file : List ℕ} {rule : Rule} {book : List ℕ} {r : Reading} {store 
 -- ---- the definition's step, from the turn
 
 module _ (R : format.Rule) (book : List ℕ) (ceiling : ℕ) (r : Reading) (store : List Level) (e : ℕ) where
-  pub step_of : {room : ℕ} {top : Level} (x : Turn) → room ≡ length store → top ≡ top_of r store
+  pub step_of : {room : ℕ} {top : Level} (x : Result Turn Reason) → room ≡ length store → top ≡ top_of r store
       → turn_says r x ≡ skip_event R book room ceiling r top e
       → store_step R book ceiling (over r store) e ≡ (turn_says r x giving λ turn. given (stored_after r store turn))
   unfolding store_step

@@ -1,14 +1,14 @@
 -- Laws of one event, which the proofs of the functions cite: what a look in a table gives, which event a number is, and that
 -- the numbers the code holds are those of the rule.
-use Rattle.std.proofs.Common.{if◌then◌else◌}
-use mathlib.Core.Path.{◌≡◌, refl, sym, ap, ◌∙◌}
+use Rattle.std.proofs.Common.{if◌then◌else◌, Result, Ok, Err}
+use mathlib.Core.Path.{◌≡◌, refl, ap, ◌∙◌}
 use mathlib.Core.Bool.{Bool, true, false, ◌||◌}
 use mathlib.Core.List.{List}
 use Prim.Native.Nat.{ℕ, zero, suc, ◌+◌, ◌-◌, ◌≤◌, ◌<◌}
 use native.Mathlib.Omega.{arith}
 use borrow.Author.Tests.{ne_eqb, leb-true, lt-leb, ltb-true}
 use lib.ListN.{length}
-use Rattle.meaning.specs.Answers.{Answer, given, refused, refuse◌at◌when◌otherwise◌, ◌≤?◌, ◌=?◌}
+use Rattle.meaning.specs.Answers.{Answer, given, refused, refuse◌at◌when◌otherwise◌, ◌giving◌, ◌≤?◌, ◌=?◌}
 use Rattle.meaning.specs.RuleFile.{none, most_states, most_letters, class_count, as_move, class_of, is_class, is_states, is_letters, rule_of, to, no_move, tree_start_move}
 use Rattle.meaning.specs.FullReading.{opens, closes, letter, event_of, most_events, known_event, look, looked, new_level, full_turn, Turn, stays, stores, ends}
 use Rattle.meaning.specs.SkipBook.{in_still}
@@ -24,11 +24,10 @@ use Rattle.rule.specs.Says.{numbers_of, RuleOf}
 use Rattle.rule.specs.declared.Rule.{Rule}
 use Rattle.rule.specs.declared.tables.Table.{Table}
 use Rattle.rule.specs.declared.tables.Table.TheVariants.{LetterMoves, TreeStart, TreeMoves}
-use Rattle.rule.specs.declared.tables.Move.{Move}
-use Rattle.rule.specs.declared.tables.Move.TheVariants as move
-use Rattle.turning.specs.declared.turns.LookedUp.{LookedUp}
-use Rattle.turning.specs.declared.turns.LookedUp.TheVariants.{To, Refused}
-use Rattle.turning.specs.Turns.{found_answer, look_answer, StatesIn, BookServes}
+use Rattle.meaning.specs.Calls.{number_of}
+use Rattle.meaning.specs.declared.reason.Reason.{Reason}
+use Rattle.turning.specs.Readings.{StatesIn, BookServes}
+use Rattle.turning.specs.Turns.{look_says, found_answer, look_answer}
 
 -- ---- a look at a byte of a table
 
@@ -37,34 +36,30 @@ module _ (ceiling : ℕ) (r : Reading) (table : Table) (byte : ℕ) (next : ℕ 
   abbrev pub look_at : Answer Turn
   look_at = refuse 9 at r.taken when ceiling ≤? r.looks otherwise look (table_says table) r.taken (as_move byte) next
 
-  -- what the turn is once the look has come to a state or to a number
-  unfoldable turn_by : LookedUp → Answer Turn
-  turn_by (To state) = given (next state)
-  turn_by (Refused number) = refused number r.taken
-
-  look_is : look_at ≡ turn_by (look_answer ceiling r (move_in table byte))
-  unfolding look_answer found_answer move_in refuse◌at◌when◌otherwise◌ look as_move turn_by
+  look_is : (look_answer ceiling r (move_in table byte) giving λ q. given (next q)) ≡ look_at
+  unfolding look_answer found_answer move_in refuse◌at◌when◌otherwise◌ look as_move ◌giving◌
   look_is = go (ceiling ≤? r.looks) (byte =? none)
     where
       go : (full is_none : Bool)
-          → (refuse 9 at r.taken when full otherwise look (table_says table) r.taken (if is_none then no_move else (to byte)) next)
-          ≡ turn_by (if full then (Refused 9) else (found_answer (if is_none then (move.NoneIn table) else (move.To byte))))
+          → ((refuse 9 at r.taken when full otherwise found_answer r (if is_none then Err table else Ok byte)) giving λ q. given (next q))
+          ≡ (refuse 9 at r.taken when full otherwise look (table_says table) r.taken (if is_none then no_move else (to byte)) next)
       go true is_none = refl
       go false true = refl
       go false false = refl
 
   -- a look that was made: what was found is the byte's move, and what it came to is the answer
-  module _ {found : Move} {answer : LookedUp} (read : found ≡ move_in table byte) (made : answer ≡ look_answer ceiling r found) where
-    comes : look_at ≡ turn_by answer
-    comes = look_is ∙ ap turn_by (sym (made ∙ ap (look_answer ceiling r) read))
+  comes : {found : Result ℕ Table} (answer : Result ℕ Reason) → found ≡ move_in table byte → look_says r answer ≡ look_answer ceiling r found
+      → (look_says r answer giving λ q. given (next q)) ≡ look_at
+  comes answer read made = rw (made, read) look_is
 
-    pub look-gives : {state : ℕ} → answer ≡ To state → look_at ≡ given (next state)
-    unfolding turn_by
-    look-gives e = comes ∙ ap turn_by e
+  module _ {found : Result ℕ Table} {answer : Result ℕ Reason} (read : found ≡ move_in table byte) (made : look_says r answer ≡ look_answer ceiling r found) where
+    pub look-gives : {state : ℕ} → answer ≡ Ok state → given (next state) ≡ look_at
+    unfolding look_says ◌giving◌
+    look-gives e = rw e at (comes answer read made)
 
-    pub look-refuses : {number : ℕ} → answer ≡ Refused number → look_at ≡ refused number r.taken
-    unfolding turn_by
-    look-refuses e = comes ∙ ap turn_by e
+    pub look-refuses : {reason : Reason} → answer ≡ Err reason → refused (number_of reason) r.taken ≡ look_at
+    unfolding look_says ◌giving◌
+    look-refuses e = rw e at (comes answer read made)
 
 -- ---- which event a number is
 

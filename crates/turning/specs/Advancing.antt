@@ -1,25 +1,24 @@
 -- Feeding on its way through the events over the level store: what is left to come of it where it stands, what the loop may
 -- count on there, and what one turn of the loop does. A turn is found by value: it tells what to store, and where.
-use Rattle.std.specs.Prelude.{ℕ, ◌≤◌, ◌<◌, ◌≡◌, List, length, drop, set}
+use Rattle.std.specs.Prelude.{ℕ, ◌≤◌, ◌<◌, ◌≡◌, List, length, drop, set, Option, Some, None, Result, Ok, Err}
 use Rattle.meaning.specs.RuleFile as format
 use Rattle.meaning.specs.RuleFile.{rule_of}
 use Rattle.meaning.specs.FullReading.{Went, feed_by}
-use Rattle.meaning.specs.Calls.{Stored, refusal_says, feeding_says, store_step}
-use Rattle.meaning.specs.declared.Feeding.{Feeding}
-use Rattle.meaning.specs.declared.Feeding.TheVariants as feeding
+use Rattle.meaning.specs.Calls.{Stored, refusal_says, store_step}
+use Rattle.meaning.specs.Calls.{says}
 use Rattle.meaning.specs.declared.Level.{Level}
 use Rattle.meaning.specs.declared.Reading.{Reading}
+use Rattle.meaning.specs.declared.Refusal.{Refusal}
 use Rattle.rule.specs.declared.Rule.{Rule}
-use Rattle.rule.specs.declared.Checked.{Checked}
-use Rattle.rule.specs.declared.Checked.TheVariants as checked
 use Rattle.turning.specs.Turns.{Feeds, over}
 use Rattle.turning.specs.declared.Going.{Going}
+use Rattle.turning.specs.declared.Entry.{Entry}
 use Rattle.turning.specs.declared.Advance.{Advance}
 
 -- what is left to come: what feeding the other events comes to, or the refusal
-unfoldable pub rest_of : Feeding → Stored → Went Stored → Went Stored
-rest_of feeding.AllTaken s w = w
-rest_of (feeding.Refused f) s w = record { last = s; ended = refusal_says f }
+unfoldable pub rest_of : Result Unit Refusal → Stored → Went Stored → Went Stored
+rest_of (Ok u) s w = w
+rest_of (Err f) s w = record { last = s; ended = refusal_says f }
 
 unfoldable pub rest : format.Rule → List ℕ → ℕ → List Level → List ℕ → Going → Went Stored
 rest R book ceiling store events g =
@@ -27,26 +26,31 @@ rest R book ceiling store events g =
     (feed_by (store_step R book ceiling) (over g.reading store) (drop g.next events))
 
 -- where feeding begins after a check: before the first event, or at the check's refusal with none left
-unfoldable pub start_of : Checked → Reading → ℕ → Going
-start_of (checked.Fine rule) r count = record { reading = r; next = 0; ended = feeding.AllTaken }
-start_of (checked.Refused f) r count = record { reading = r; next = count; ended = feeding.Refused f }
+unfoldable pub start_of : {A : Type 0} → Result A Refusal → Reading → ℕ → Going
+start_of (Ok a) r count = record { reading = r; next = 0; ended = Ok tt }
+start_of (Err f) r count = record { reading = r; next = count; ended = Err f }
+
+-- the store with the record that a turn stores, if it stores one
+unfoldable pub stored : Option Entry → List Level → List Level
+stored None store = store
+stored (Some e) store = set store e.place e.level
 
 -- where an event is left, none was refused, and what stands there is a reading
 pub record CanGoOn (file : List ℕ) (rule : Rule) (book : List ℕ) (store : List Level) (events : List ℕ) (g : Going) : Type 0 where
   pub within : g.next ≤ length events
-  pub taken : g.next < length events → g.ended ≡ feeding.AllTaken
+  pub taken : g.next < length events → g.ended ≡ Ok tt
   pub feeds : g.next < length events → Feeds file rule book g.reading store
 
 -- one turn: it goes further, and with its record stored, what is left to come is the same
 pub record Advances (file : List ℕ) (rule : Rule) (book : List ℕ) (ceiling : ℕ) (store : List Level) (r : Reading) (events : List ℕ) (next : ℕ) (a : Advance) : Type 0 where
   pub further : next < a.going.next
   pub more : r.taken ≤ a.going.reading.taken
-  pub goes : CanGoOn file rule book (set store a.place a.level) events a.going
-  pub comes : rest (rule_of file) book ceiling (set store a.place a.level) events a.going
+  pub goes : CanGoOn file rule book (stored a.stores store) events a.going
+  pub comes : rest (rule_of file) book ceiling (stored a.stores store) events a.going
       ≡ feed_by (store_step (rule_of file) book ceiling) (over r store) (drop next events)
 
 -- all turns: feeding has come to its end
 pub record Gone (w : Went Stored) (before : Reading) (room : ℕ) (g : Going) (store : List Level) : Type 0 where
-  pub comes : w ≡ record { last = over g.reading store; ended = feeding_says g.ended }
+  pub comes : w ≡ record { last = over g.reading store; ended = says g.ended }
   pub more : before.taken ≤ g.reading.taken
   pub same_room : length store ≡ room

@@ -1,3 +1,4 @@
+pub mod Readings
 pub mod Turns
 pub mod PassingOver
 pub mod Advancing

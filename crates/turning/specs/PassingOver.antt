@@ -1,7 +1,7 @@
 -- A run of events that is passed over on a settled level by counting alone: feeding goes on from where it was left as it would
 -- have gone on from where it began.
-use Rattle.std.specs.Prelude.{ℕ, ◌+◌, ◌-◌, ◌≤◌, ◌<◌, min, true, ◌≡◌, List, [], ◌∷◌, length, take, drop, if◌then◌else◌}
-use Rattle.meaning.specs.Answers.{◌=?◌, ◌≤?◌}
+use Rattle.std.specs.Prelude.{ℕ, ◌+◌, ◌-◌, ◌≤◌, ◌<◌, min, true, ◌≡◌, List, [], ◌∷◌, length, take, drop, All, sum_by, if◌then◌else◌}
+use Rattle.meaning.specs.Answers.{◌=?◌}
 use Rattle.meaning.specs.RuleFile.{Rule}
 use Rattle.meaning.specs.FullReading.{feed_by}
 use Rattle.meaning.specs.Skipping.{settled}
@@ -14,25 +14,17 @@ use Rattle.turning.specs.declared.passing.Counts.{Counts}
 use Rattle.turning.specs.declared.passing.Depths.{Depths}
 use Rattle.turning.specs.declared.passing.Passed.{Passed}
 
--- how many trees an event opens, how many it closes, and one for an event that is unknown
+-- how many trees an event opens, and how many it closes
 unfoldable pub openings : ℕ → ℕ
 openings e = if e =? 0 then 1 else 0
 
 unfoldable pub closings : ℕ → ℕ
 closings e = if e =? 1 then 1 else 0
 
-unfoldable pub unknowns : ℕ → ℕ → ℕ
-unknowns known e = if known ≤? e then 1 else 0
-
--- a count over a run of events
-unfoldable pub total : (ℕ → ℕ) → List ℕ → ℕ
-total f [] = 0
-total f (e ∷ es) = f e + total f es
-
 pub record CountsOf (events : List ℕ) (r : Counts) : Type 0 where
-  pub opens_are : r.opens ≡ total openings events
-  pub closes_are : r.closes ≡ total closings events
-  pub none_above : (known : ℕ) → r.largest < known → total (unknowns known) events ≡ 0
+  pub opens_are : r.opens ≡ sum_by openings events
+  pub closes_are : r.closes ≡ sum_by closings events
+  pub none_above : All (λ e. e ≤ r.largest) events
 
 -- a run whose closes do not end the level, from one skip depth to another
 pub data Passing : ℕ → List ℕ → ℕ → Type 0 where
@@ -40,35 +32,50 @@ pub data Passing : ℕ → List ℕ → ℕ → Type 0 where
   pass_one : {skip skip' e : ℕ} {es : List ℕ} → closings e ≤ skip → Passing (skip + openings e - closings e) es skip'
       → Passing skip (e ∷ es) skip'
 
+-- the depths of a run with no events, begun at the depth given
+unfoldable pub no_event : ℕ → Depths
+no_event depth = record { begun = depth; lowest = depth; last = depth }
+
 -- the depths of a run with one event more
 unfoldable pub one_more : Depths → ℕ → Depths
-one_more d e = record { lowest = min d.lowest (d.last + openings e - closings e); last = d.last + openings e - closings e }
+one_more d e = record {
+  begun = d.begun;
+  lowest = min d.lowest (d.last + openings e - closings e);
+  last = d.last + openings e - closings e;
+}
 
--- the depths of two runs, one after the other, the second of which was begun at the depth given
-unfoldable pub joined : ℕ → Depths → Depths → Depths
-joined begin d d' = record { lowest = min (d.lowest + begin) (d.last + d'.lowest); last = d.last + d'.last }
+-- the depths of two runs, one after the other
+unfoldable pub joined : Depths → Depths → Depths
+joined d d' = record {
+  begun = d.begun + d'.begun;
+  lowest = min (d.lowest + d'.begun) (d.last + d'.lowest);
+  last = d.last + d'.last;
+}
 
--- the depths of a run that was begun at the depth given, which is no less than its closes: from every skip depth that leaves the
--- lowest one at zero or above, no close of the run ends the level
-pub record DepthsOf (begin : ℕ) (events : List ℕ) (d : Depths) : Type 0 where
-  pub not_above : d.lowest ≤ begin
+-- the depths of a run no longer than a block, which fit with those of another
+pub record Short (d : Depths) : Type 0 where
+  pub begun_fits : d.begun ≤ 256
+  pub lowest_fits : d.lowest ≤ 256
+  pub last_fits : d.last ≤ 512
+
+-- the depths of a run that was begun at a depth no less than its closes: from every skip depth that leaves the lowest one at
+-- zero or above, no close of the run ends the level
+pub record DepthsOf (events : List ℕ) (d : Depths) : Type 0 where
+  pub not_above : d.lowest ≤ d.begun
   pub not_past : d.lowest ≤ d.last
-  pub few_closes : begin ≤ d.lowest + length events
-  pub few_opens : d.last ≤ begin + length events
-  pub passing : (skip : ℕ) → begin ≤ skip + d.lowest → Passing skip events (skip + d.last - begin)
+  pub few_closes : d.begun ≤ d.lowest + length events
+  pub few_opens : d.last ≤ d.begun + length events
+  pub passing : (skip : ℕ) → d.begun ≤ skip + d.lowest → Passing skip events (skip + d.last - d.begun)
 
--- the first events of a run, passed over by counting: each is known, and no close ends the level
+-- a run that is passed over by counting, from one skip depth to another: each event is known, and no close ends the level
+pub record AllPassed (known skip : ℕ) (events : List ℕ) (skip' : ℕ) : Type 0 where
+  pub all_known : All (λ e. e < known) events
+  pub passing : Passing skip events skip'
+
+-- the first events of a run, passed over by counting
 pub record PassedIn (known skip : ℕ) (events : List ℕ) (r : Passed) : Type 0 where
   pub within : r.count ≤ length events
-  pub all_known : total (unknowns known) (take r.count events) ≡ 0
-  pub passing : Passing skip (take r.count events) r.skip
-
--- so many events further, or where the events end
-pub record Ahead (from count end r : ℕ) : Type 0 where
-  pub not_before : from ≤ r
-  pub not_past : r ≤ end
-  pub not_far : r ≤ from + count
-  pub goes_on : from < end → 0 < count → from < r
+  pub passed : AllPassed known skip (take r.count events) r.skip
 
 -- the reading after so many events that were no look and left it on its level
 unfoldable pub passed_on : Reading → ℕ → ℕ → Reading

@@ -7,17 +7,32 @@ pub mod passing;
 pub mod settling;
 pub mod turns;
 
-use meaning::{Feeding, Level, Reading};
+ghost use Rattle.std.specs.Prelude.{◌≡◌, Ok, None};
+ghost use Rattle.turning.specs.Readings.{StatesIn, Counted};
 
-// What one event leads to: the open levels stay, a record is stored for one more level, the innermost level ends, or
-// the event is refused with a number. The place of a refused event is the count of events taken before it, which the
-// reading has.
+use meaning::{Level, Reading, Refusal};
+use rule::CheckedRule;
+
+// What an event is judged by: the rule, the length of the level store, the ceiling, the reading, and the innermost level's record.
+// The states are the rule's, and the levels and the looks are within the events taken.
+#[derive(Clone, Copy)]
+pub struct Standing<'a> {
+    pub rule: CheckedRule<'a>,
+    pub room: usize,
+    pub ceiling: u32,
+    pub reading: Reading,
+    pub top: Level,
+    pub ghost states_in: { StatesIn rule.rule reading top },
+    pub ghost counted: { Counted reading },
+}
+
+// What one event leads to where it is not refused: the open levels stay, a record is stored for one more level, or the innermost
+// level ends.
 #[derive(Clone, Copy)]
 pub enum Turn {
     Stays(Reading),
     Stores(Level, Reading),
     Ends(Reading),
-    Refused(u8),
 }
 
 // Where passing over a run of events was left: the reading there, and the index of the next event.
@@ -32,14 +47,44 @@ pub struct PassedTo {
 pub struct Going {
     pub reading: Reading,
     pub next: usize,
-    pub ended: Feeding,
+    pub ended: Result<(), Refusal>,
 }
 
-// What one turn leads to: where feeding stands then, and the record to store with its place. Nothing is stored past the
-// level store's length.
+impl Going {
+    // Feeding goes on at the event given: none was refused.
+    pub fn on(reading: Reading, next: usize) -> Self
+        ensures { result ≡ record { reading = reading; next = next; ended = Ok tt } }
+    {
+        Going {
+            reading,
+            next,
+            ended: Ok(()),
+        }
+    }
+}
+
+// A record to store, with its place in the level store.
+#[derive(Clone, Copy)]
+pub struct Entry {
+    pub place: usize,
+    pub level: Level,
+}
+
+// What one turn leads to: where feeding stands then, and the record to store, if there is one.
 #[derive(Clone, Copy)]
 pub struct Advance {
     pub going: Going,
-    pub place: usize,
-    pub level: Level,
+    pub stores: Option<Entry>,
+}
+
+impl Advance {
+    // Feeding goes on at the event given, and no record is stored.
+    pub fn storing_none(reading: Reading, next: usize) -> Self
+        ensures { result ≡ record { going = record { reading = reading; next = next; ended = Ok tt }; stores = None } }
+    {
+        Advance {
+            going: Going::on(reading, next),
+            stores: None,
+        }
+    }
 }

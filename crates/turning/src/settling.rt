@@ -2,10 +2,49 @@
 ghost use Rattle.std.specs.Prelude.{◌≡◌, ◌+◌, ◌<◌, length};
 ghost use Rattle.meaning.specs.SkipBook.{bit};
 ghost use Rattle.meaning.specs.Skipping as skipping;
-ghost use Rattle.meaning.specs.Skipping.{settled};
-ghost use Rattle.turning.specs.Turns.{BookServes};
+ghost use Rattle.turning.specs.Readings.{BookServes};
+ghost use Rattle.turning.specs.Turns.{is_held, is_settled, Stands};
 
 use meaning::{Level, Reading};
+
+// How a level is settled by the book: not at all, since its state is in still, or since it has an upper state u and its state is
+// in hold(u).
+#[derive(Clone, Copy, Debug, PartialEq, Eq)]
+pub enum Settled {
+    Not,
+    Still,
+    Held,
+}
+
+impl Settled {
+    // How the book settles the level.
+    pub fn of(book: &[u64], reading: Reading, top: Level) -> Self
+        requires { BookServes book.now reading top }
+        ensures { Stands book.now reading top result }
+    {
+        if in_hold(book, reading, top) {
+            return Settled::Held;
+        }
+        if in_set(book[0], reading.state) {
+            return Settled::Still;
+        }
+        Settled::Not
+    }
+
+    #[tactic(auto, unfolding(crate::specs::Turns::is_held))]
+    pub fn is_held(self) -> bool
+        ensures { result ≡ is_held self }
+    {
+        matches!(self, Settled::Held)
+    }
+
+    #[tactic(auto, unfolding(crate::specs::Turns::is_settled))]
+    pub fn is_settled(self) -> bool
+        ensures { result ≡ is_settled self }
+    {
+        !matches!(self, Settled::Not)
+    }
+}
 
 // Whether a state is in the set that a word stands for: its bit.
 #[tactic(auto, unfolding(meaning::specs::SkipBook::bit))]
@@ -17,7 +56,7 @@ fn in_set(word: u64, state: u8) -> bool
 }
 
 // Whether the level has an upper state u and the state is in hold(u).
-pub fn is_held(book: &[u64], reading: Reading, top: Level) -> bool
+fn in_hold(book: &[u64], reading: Reading, top: Level) -> bool
     requires { BookServes book.now reading top }
     ensures { result ≡ skipping.held book.now reading top }
 {
@@ -26,16 +65,4 @@ pub fn is_held(book: &[u64], reading: Reading, top: Level) -> bool
     }
     let hold = 1 + top.above as usize;
     in_set(book[hold], reading.state)
-}
-
-// Whether the level is settled: it is held, or its state is in still.
-pub fn is_settled(book: &[u64], reading: Reading, held: bool) -> bool
-    requires state_bit { reading.state < 64 }
-    requires still_word { 0 < length book.now }
-    ensures { (top : Level) → held ≡ skipping.held book.now reading top → result ≡ settled book.now reading top }
-{
-    if held {
-        return true;
-    }
-    in_set(book[0], reading.state)
 }

@@ -7,7 +7,7 @@ loop-letter-init c = record { within = omega arith; walked = walk_first _ }
 
 pub loop-letter-preserved : goal.loop-letter-preserved
 loop-letter-preserved c =
-    let move = letter-is c.requires.rule_of c.args.state c.loop-letter.letter c.letter_move.ensures c.requires.is_state c.loop-letter-test.true in
+    let move = letter-is c.args.rule.accepted c.args.state c.loop-letter.letter c.letter_move.ensures c.requires c.loop-letter-test.true in
     record {
       within = omega arith;
       walked = walk-next _ c.loop-letter.letter c.loop-letter.set c.target-set.result move c.loop-letter.invariant.walked c.target-set.ensures;
@@ -15,5 +15,5 @@ loop-letter-preserved c =
 
 pub returns : goal.returns
 returns c =
-    let last : c.loop-letter.letter ≡ c.args.rule.letters = omega arith in
-    letters-walked c.requires.rule_of c.args.state c.loop-letter.set (rw last at c.loop-letter.invariant.walked)
+    let last : c.loop-letter.letter ≡ c.args.rule.rule.letters = omega arith in
+    letters-walked c.args.rule.accepted c.args.state c.loop-letter.set (rw last at c.loop-letter.invariant.walked)

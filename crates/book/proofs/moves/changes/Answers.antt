@@ -1,26 +1,15 @@
-use Rattle.std.proofs.Common.{◌≡◌, not, sym, ap, ◌∙◌, arith}
+use Rattle.std.proofs.Common.{not, rules}
+use Rattle.meaning.specs.RuleFile.{tree_move, rule_of}
 use Rattle.meaning.specs.SkipBook.{none_or}
-use Rattle.book.proofs.Standing.{gather-first}
 use Rattle.book.proofs.Walked.{tree_is, changes-gathered, few-states}
 use Rattle.book.proofs.moves.changes.Goals as goal
 
-pub loop-lower-init : goal.loop-lower-init
-loop-lower-init c = record { within = omega arith; gathered = gather-first _ }
-
-pub only-requires : goal.only-requires
-only-requires c = omega (arith, few-states c.requires.rule_of)
-
-pub loop-lower-preserved : goal.loop-lower-preserved
-loop-lower-preserved c =
-    let u = c.args.upper in
-    let move = tree_is c.requires.rule_of u c.loop-lower.lower c.tree_move-found.ensures c.requires.is_state c.loop-lower-test.true in
-    record {
-      within = omega arith;
-      gathered =
-          c.with-set.ensures _ c.loop-lower.lower c.only.ensures (sym (c.changed.ensures ∙ ap (λ m. not (none_or u m)) move)) c.loop-lower.invariant.gathered;
-    }
+pub states_with-requires-clause-few_states : goal.states_with-requires-clause-few_states
+states_with-requires-clause-few_states c = few-states c.args.rule.accepted
 
 pub returns : goal.returns
 returns c =
-    let last : c.loop-lower.lower ≡ c.args.rule.states = omega arith in
-    changes-gathered c.requires.rule_of c.args.upper c.loop-lower.set (rw last at c.loop-lower.invariant.gathered)
+    let u = c.args.upper in
+    changes-gathered c.args.rule.accepted u c.states_with.result
+    (c.states_with.ensures (λ p. not (none_or u (tree_move (rule_of c.args.rule.file.now) u p)))
+    (λ lower answer h e. search (rules, tree_is c.args.rule.accepted u lower)))

@@ -1,24 +1,16 @@
-use Rattle.std.proofs.Common.{arith}
-use Rattle.book.specs.Sets.{Moves}
-use Rattle.book.proofs.Standing.{filled-first, filled_next}
+use Rattle.std.proofs.Common.{get_or, rules, arith}
+use Rattle.meaning.specs.RuleFile.{rule_of}
+use Rattle.book.specs.Sets.{StandsFor, by_letters, Moves}
 use Rattle.book.proofs.Walked.{few-states, states-are}
 use Rattle.book.proofs.EndSet.{letters-alone}
 use Rattle.book.proofs.moves.letter_moves.Goals as goal
 
-pub loop-state-init : goal.loop-state-init
-loop-state-init c = record { within = omega arith; filled = filled-first _ _ c.no_sets-table.ensures }
-
-pub bounds-table-state : goal.bounds-table-state
-bounds-table-state c = omega (arith, few-states c.requires)
-
-pub loop-state-preserved : goal.loop-state-preserved
-loop-state-preserved c =
-    record {
-      within = omega arith;
-      filled =
-          filled_next _ _ _ _ (omega (arith, few-states c.requires)) c.loop-state.invariant.filled (letters-alone _ _ _ c.by_letters.ensures);
-    }
+pub table_of-requires-clause-few_states : goal.table_of-requires-clause-few_states
+table_of-requires-clause-few_states c = few-states c.args.rule.accepted
 
 pub returns : goal.returns
 unfolding Moves
-returns c q h = c.loop-state.invariant.filled.each q (omega (arith, states-are c.requires))
+returns c q h =
+    let each = c.table_of.ensures.each q (omega (arith, states-are c.args.rule.accepted)) in
+    let own : StandsFor (get_or c.table_of.result q 0) (by_letters (rule_of c.args.rule.file.now) q) = search rules in
+    letters-alone _ _ _ own

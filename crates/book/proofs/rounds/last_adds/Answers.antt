@@ -1,4 +1,4 @@
-use Rattle.std.proofs.Common.{◌<◌, sym, arith}
+use Rattle.std.proofs.Common.{◌<◌, ◌≤◌, sym, arith, get_or-take, length-take-le}
 use borrow.Author.Count.{below_more}
 use Rattle.std.proofs.Common.{false}
 use Rattle.meaning.specs.SkipBook.{ends_in, reached_in, adds, rounds_used_up}
@@ -16,21 +16,26 @@ returns-then-with_members-ends c R rule found size reached =
 pub returns-then-with_members-set : goal.returns-then-with_members-set
 unfolding rounds_used_up
 returns-then-with_members-set c R rule found size reached =
-    let state = c.loop-state.state in
-    let inside : state < R.states = omega arith in
+    let state = c.loop-set.set-index in
+    let inside : state < R.states = omega (arith, length-take-le c.args.states c.args.reach.now (omega arith)) in
+    let here = get_or-take c.args.states c.args.reach.now state 0 (omega arith) in
+    let next = c.with_members-in-loop-set in
+    let other = c.if-with_members-set.true in
     sym (or_true_right (adds R (ends_in R 63) (ends_in R 64)) (below-any R.states (λ q. adds R (reached_in R 63 q) (reached_in R 64 q)) state inside
-    (last-other _ _ state c.with_members-in-loop-state.result (omega arith) c.with_members-in-loop-state.ensures c.if-with_members-set.true R rule (all_found R rule _ _ found) reached inside)))
+    (last-other _ _ state next.result (omega arith) (rw here at next.ensures) (rw here at other) R rule (all_found R rule _ _ found) reached inside)))
 
-pub loop-state-preserved : goal.loop-state-preserved
-loop-state-preserved c =
-    record {
-      within = omega arith;
-      none_adds = below_more (λ q. LastAdds c.args.moves.now c.args.reach.now q false) c.loop-state.state c.loop-state.invariant.none_adds
-          (last-same _ _ c.loop-state.state c.with_members-in-loop-state.result (omega arith) c.with_members-in-loop-state.ensures c.if-with_members-set.false);
-    }
+pub loop-set-preserved : goal.loop-set-preserved
+loop-set-preserved c =
+    let state = c.loop-set.set-index in
+    let here = get_or-take c.args.states c.args.reach.now state 0 (omega (arith, length-take-le c.args.states c.args.reach.now (omega arith))) in
+    let next = c.with_members-in-loop-set in
+    let same = c.if-with_members-set.false in
+    below_more (λ q. LastAdds c.args.moves.now c.args.reach.now q false) state c.loop-set.invariant
+    (last-same _ _ state next.result (omega arith) (rw here at next.ensures) (rw here at same))
 
 pub returns : goal.returns
 unfolding rounds_used_up
 returns c R rule found size reached =
+    let all : R.states ≤ c.loop-set.set-index = omega (arith, length-take-le c.args.states c.args.reach.now (omega arith)) in
     sym (both_false (last-end-same R rule _ _ found c.with_members.result (omega arith) c.with_members.ensures c.if-with_members-ends.false)
-    (any-below-fails R.states _ (λ q h. c.loop-state.invariant.none_adds q (omega arith) R rule (all_found R rule _ _ found) reached h)))
+    (any-below-fails R.states _ (λ q h. c.loop-set.invariant q (omega arith) R rule (all_found R rule _ _ found) reached h)))

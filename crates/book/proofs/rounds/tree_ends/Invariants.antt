@@ -1,11 +1,7 @@
 -- The word is that of so many rounds, and the table is the one for it as lower states.
-use Rattle.std.proofs.Common.{◌≤◌, ◌-◌}
 use Rattle.meaning.specs.RuleFile.{rule_of}
 use Rattle.book.specs.Sets.{EndsFound}
 use Rattle.book.proofs.rounds.tree_ends.Given as goal
 
 abbrev pub invariant-loop-round : goal.invariant-loop-round
-invariant-loop-round l = record { within : l.round ≤ 63; found : EndsFound (rule_of l.file) l.round l.set l.moves }
-
-abbrev pub decreases-loop-round : goal.decreases-loop-round
-decreases-loop-round l = 63 - l.round
+invariant-loop-round l = EndsFound (rule_of l.rule.file.now) l._round l.set l.moves

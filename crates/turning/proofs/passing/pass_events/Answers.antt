@@ -1,25 +1,14 @@
--- A known event whose close does not end the level is one more that is passed over.
-use Rattle.std.proofs.Common.{refl, arith, length-take-le, get_or}
-use Rattle.turning.specs.PassingOver.{total, pass_none}
-use Rattle.turning.proofs.Counting.{one-kind, known_more, passing-more, passing-few}
+-- An event that is passed over is one more of them.
+use Rattle.std.proofs.Common.{arith, length-take}
+use Rattle.turning.proofs.Counting.{passed_none, passed-more, passing-few}
 use Rattle.turning.proofs.passing.pass_events.Goals as goal
 
-pub loop-i-init : goal.loop-i-init
-unfolding total
-loop-i-init c = record { within = omega arith; all_known = refl; passing = pass_none }
+pub loop-count-init : goal.loop-count-init
+loop-count-init c = passed_none c.args.known c.args.skip
 
-pub overflow_add-skip : goal.overflow_add-skip
-overflow_add-skip c =
-    omega (arith, passing-few c.loop-i.invariant.passing, length-take-le c.loop-i.i c.args.block.now c.loop-i.invariant.within)
+pub after_event-requires : goal.after_event-requires
+after_event-requires c = omega (arith, passing-few c.loop-count.invariant.passing, length-take c.loop-count.count c.args.events.now)
 
-pub loop-i-preserved : goal.loop-i-preserved
-loop-i-preserved c =
-    let s = c.loop-i in
-    let block = c.args.block.now in
-    let opened = c.openings.ensures.opens in
-    let closed = c.closings-closed.ensures.closes in
-    record {
-      within = omega arith;
-      all_known = known_more c.args.known block s.i (omega arith) s.invariant.all_known (omega arith);
-      passing = rw (opened, closed) (passing-more block c.args.depth s.last s.i (omega arith) s.invariant.passing (omega (arith, opened, closed, one-kind (get_or block s.i 0))));
-    }
+pub loop-count-preserved : goal.loop-count-preserved
+loop-count-preserved c =
+    passed-more c.args.known c.args.events.now _ _ _ c.loop-count.count (omega arith) c.loop-count.invariant c.in-Some.ensures

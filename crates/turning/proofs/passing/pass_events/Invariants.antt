@@ -1,14 +1,7 @@
--- What was seen is known and ends no level.
-use Rattle.std.proofs.Common.{◌≡◌, ◌-◌, ◌≤◌, length, take}
-use Rattle.turning.specs.PassingOver.{unknowns, total, Passing}
+-- The events that were seen are passed over.
+use Rattle.std.proofs.Common.{take}
+use Rattle.turning.specs.PassingOver.{AllPassed}
 use Rattle.turning.proofs.passing.pass_events.Given as goal
 
-abbrev pub invariant-loop-i : goal.invariant-loop-i
-invariant-loop-i l = record {
-  within : l.i ≤ length l.block;
-  all_known : total (unknowns l.known) (take l.i l.block) ≡ 0;
-  passing : Passing l.depth (take l.i l.block) l.last;
-}
-
-abbrev pub decreases-loop-i : goal.decreases-loop-i
-decreases-loop-i l = length l.block - l.i
+abbrev pub invariant-loop-count : goal.invariant-loop-count
+invariant-loop-count l = AllPassed l.known l.fn.skip (take l.count l.events) l.last

@@ -1,38 +1,15 @@
--- Each block, as far as it is passed over, is a run of all the events.
-use Rattle.std.proofs.Common.{arith}
-use Rattle.turning.proofs.PassesOn.{passes-start, passes-block, passes-left}
+-- What is left of the events, as far as the reading can take them, is one run.
+use Rattle.std.proofs.Common.{◌-◌, drop, length, take_all, length-drop, length-take, arith}
+use Rattle.turning.proofs.PassesOn.{passes_over}
+use Rattle.turning.specs.PassingOver.{passed_on}
 use Rattle.turning.proofs.passing.pass_over.Goals as goal
 
-pub loop-i-init : goal.loop-i-init
-loop-i-init c =
-    let a = c.ahead-stop.ensures in
-    record {
-      not_past = a.not_before;
-      within = a.not_past;
-      goes_on = λ h. a.goes_on h (omega arith);
-      passes = passes-start _ _ _ _ c.requires.not_past c.requires.counted.levels_taken;
-    }
-
-pub returns-then-i-stop : goal.returns-then-i-stop
-returns-then-i-stop c =
-    let s = c.loop-i.invariant in
-    let end = c.last_event-end.ensures in
-    let passed = passes-block _ _ _ _ _ _ _ _ _ s.passes s.not_past s.within end.not_past end.within_limit c.pass_block-passed.ensures in
-    passes-left _ _ _ _ _ _ c.left_at.result passed.1 c.left_at.ensures.reading_after c.left_at.ensures.next_after
-
-pub loop-i-preserved : goal.loop-i-preserved
-loop-i-preserved c =
-    let s = c.loop-i.invariant in
-    let end = c.last_event-end.ensures in
-    let passed = passes-block _ _ _ _ _ _ _ _ _ s.passes s.not_past s.within end.not_past end.within_limit c.pass_block-passed.ensures in
-    let a = c.ahead-stop-in-loop-i.ensures in
-    record {
-      not_past = a.not_before;
-      within = a.not_past;
-      goes_on = λ h. a.goes_on h (omega arith);
-      passes = passed.1;
-    }
-
 pub returns : goal.returns
-returns c =
-    passes-left _ _ _ _ _ _ c.left_at-2.result c.loop-i.invariant.passes c.left_at-2.ensures.reading_after c.left_at-2.ensures.next_after
+unfolding passed_on
+returns c = λ book top is.
+    let events = c.args.events.now in
+    let from = c.args.from in
+    let left = take_all (length events - from) (drop from events) (omega (arith, length-drop from events)) in
+    let long = length-take c.min.result (drop from events) in
+    passes_over c.args.letters book c.args.reading top events from c.min.result c.pass_run-passed.result
+    c.requires.counted.levels_taken c.requires.not_past (omega arith) (rw left at c.pass_run-passed.ensures) is
