@@ -6,45 +6,52 @@ use mathlib.Core.List.{List}
 use Prim.Native.Nat.{ℕ, ◌+◌, ◌≤◌, ◌<◌}
 use native.Mathlib.Omega.{arith}
 use lib.ListN.{length}
-use Rattle.meaning.specs.Answers.{given, refused, ◌giving◌}
-use Rattle.meaning.specs.FullReading.{Went}
+use Rattle.std.specs.Prelude.{Err}
+use Rattle.meaning.specs.Answers.{given, refused}
+use Rattle.meaning.specs.FullReading.{Went, feed_by}
 use Rattle.meaning.specs.RuleFile.{check_rule, rule_of}
-use Rattle.meaning.specs.Calls.{Stored, refusal_says, top_of, not_reading, reading_check, feed_call, end_of, finish_call}
+use Rattle.meaning.specs.Calls.{Stored, says, refusal_says, open_call, opened_book, store_step, top_of, not_reading, reading_check, feed_call, end_of, finish_call}
 use Rattle.meaning.specs.declared.Level.{Level}
 use Rattle.meaning.specs.declared.Reading.{Reading}
 use Rattle.meaning.specs.declared.Refusal.{Refusal}
 use Rattle.meaning.proofs.rulefile.Accepted.{accepted-rule}
 use Rattle.meaning.proofs.skipbook.BookLong.{long-passes, short-stops}
+use Rattle.meaning.proofs.skipbook.BookMade.{after-refused}
+use Rattle.meaning.proofs.stores.Opens.{open-unchecked}
 use Rattle.meaning.proofs.laws.Answered.{refuse-stops, refuse-passes, giving-given, giving-passes, giving-stops}
 use Rattle.meaning.proofs.stores.ReadingCheck.{check-says, check-passes, feed-checked, feed-unchecked, finish-checked, finish-unchecked}
-use Rattle.rule.specs.Says.{numbers_of, checked_says, check_answer, RuleOf}
+use Rattle.rule.specs.Says.{numbers_of, check_answer, RuleOf}
 use Rattle.rule.specs.declared.Rule.{Rule}
-use Rattle.rule.specs.declared.Checked.{Checked}
-use Rattle.rule.specs.declared.Checked.TheVariants as checked
-use Rattle.rule.proofs.Said.{fine-accepted, giving-refused}
-use Rattle.turning.specs.Turns.{Feeds}
-use Rattle.reading.specs.Feeding.{FedIs, fed_of}
-use Rattle.turning.specs.Advancing.{rest, rest_of, start_of, CanGoOn, Gone}
+use Rattle.rule.proofs.Said.{giving-refused, refused-check}
+use Rattle.turning.specs.Turns.{Feeds, over}
+use Rattle.turning.specs.Advancing.{Gone}
 use Rattle.turning.specs.declared.Going.{Going}
-use Rattle.reading.specs.Checks.{rule_in, reading_answer}
 use Rattle.turning.proofs.Steps.{turn-ready}
 use Rattle.turning.proofs.Turned.{states-are}
+use Rattle.reading.specs.Feeding.{FedIs, fed_of}
+use Rattle.reading.specs.Checks.{reading_answer}
 
 -- ---- the rule
 
--- the rule check gave these numbers: they are the accepted file's
-pub ruled-by : (file : List ℕ) (rule : Rule) → checked_says (checked.Fine rule) ≡ check_answer file → RuleOf file rule
-ruled-by file rule e =
-    let f = fine-accepted file rule e in
-    let same = accepted-rule file f.1 in
-    record { accepted = rw same f.1; numbers = rw same f.2 }
+-- what the check refused, opening refuses, and the book stays
+check-stops : (file : List ℕ) (f : Refusal) → check_answer file ≡ refusal_says f → check_rule file ≡ refused f.number f.place
+unfolding says
+check-stops file f e = refused-check file f (sym e)
+
+module _ (file book : List ℕ) (f : Refusal) (stopped : check_answer file ≡ refusal_says f) where
+  pub unchecked-opens : open_call file book ≡ refusal_says f
+  unfolding refusal_says
+  unchecked-opens = open-unchecked file book (check-stops file f stopped)
+
+  pub unchecked-stays : book ≡ opened_book file book
+  unchecked-stays = sym (after-refused _ _ _ (open-unchecked file book (check-stops file f stopped)))
 
 -- ---- the answer, one law for each way it goes
 
 module _ (file book : List ℕ) (r : Reading) (store : List Level) where
-  pub answer-rule : {number place : ℕ} → check_rule file ≡ refused number place → reading_answer file book r store ≡ refused number place
-  unfolding reading_answer reading_check
-  answer-rule e = giving-stops _ (giving-stops _ e)
+  pub answer-rule : (f : Refusal) → check_answer file ≡ refusal_says f → reading_answer file book r store ≡ refusal_says f
+  unfolding reading_answer reading_check refusal_says
+  answer-rule f e = giving-stops _ (giving-stops _ (check-stops file f e))
 
   module _ {rule : Rule} (h : RuleOf file rule) where
     pub answer-short : length book < rule.states + 1 → reading_answer file book r store ≡ refused 6 0
@@ -66,83 +73,63 @@ module _ (file book : List ℕ) (r : Reading) (store : List Level) where
           (giving-passes _ h.accepted ∙ (long-passes (rule_of file) book _ (omega (arith, states-are h)) ∙ refuse-passes 13 0 _ is_not))
           ∙ ap given h.numbers
 
-  -- ---- what the answer says to the caller
+  -- ---- a check that passed
 
-  -- the check passed
-  pub fine-feeds : (rule : Rule) → checked_says (checked.Fine rule) ≡ reading_answer file book r store → Feeds file rule book r store
-  unfolding checked_says reading_answer numbers_of
-  fine-feeds rule e =
-      let g = giving-given (reading_check file book r store) (λ R. given (numbers_of R)) (sym e) in
-      let c = check-says file book r store g.1 in
-      let same = accepted-rule file c.accepted in
-      let numbers : numbers_of g.0 ≡ rule = cc g.2 in
-      let states : g.0.states ≡ rule.states = ap (λ (n : Rule). n.states) numbers in
-      record {
-        ruled = record { accepted = rw same c.accepted; numbers = rw same numbers };
-        book_long = omega (arith, c.long_enough);
-        is_reading = rw same c.is_reading;
-      }
+  module _ {rule : Rule} (passed : reading_answer file book r store ≡ given rule) where
+    pub fine-feeds : Feeds file rule book r store
+    unfolding reading_answer numbers_of
+    fine-feeds =
+        let g = giving-given (reading_check file book r store) (λ R. given (numbers_of R)) passed in
+        let c = check-says file book r store g.1 in
+        let same = accepted-rule file c.accepted in
+        let numbers : numbers_of g.0 ≡ rule = cc g.2 in
+        let states : g.0.states ≡ rule.states = ap (λ (n : Rule). n.states) numbers in
+        record {
+          ruled = record { accepted = rw same c.accepted; numbers = rw same numbers };
+          book_long = omega (arith, c.long_enough);
+          is_reading = rw same c.is_reading;
+        }
 
-  pub fine-passes : (rule : Rule) → checked_says (checked.Fine rule) ≡ reading_answer file book r store
-      → reading_check file book r store ≡ given (rule_of file)
-  fine-passes rule e =
-      let h = fine-feeds rule e in
-      check-passes file book r store
-      (record {
-        accepted = h.ruled.accepted;
-        long_enough = omega (arith, h.book_long, states-are h.ruled);
-        is_reading = h.is_reading;
-      })
+    fine-passes : reading_check file book r store ≡ given (rule_of file)
+    fine-passes =
+        let h = fine-feeds in
+        check-passes file book r store
+        (record {
+          accepted = h.ruled.accepted;
+          long_enough = omega (arith, h.book_long, states-are h.ruled);
+          is_reading = h.is_reading;
+        })
 
-  -- the check was refused
-  pub refused-reads : (f : Refusal) → checked_says (checked.Refused f) ≡ reading_answer file book r store
-      → reading_check file book r store ≡ refused f.number f.place
-  unfolding checked_says reading_answer refusal_says
-  refused-reads f e = giving-refused (reading_check file book r store) _ _ _ (λ R. (numbers_of R, refl)) (sym e)
+    -- what feeding comes to is what the call comes to
+    pub fine-fed : (ceiling : ℕ) (events : List ℕ)
+        → feed_by (store_step (rule_of file) book ceiling) (over r store) events ≡ feed_call file book ceiling r store events
+    fine-fed ceiling events = sym (feed-checked _ _ _ _ _ _ fine-passes)
 
--- ---- what follows a check that passed, and one that was refused
+    -- and the end of the reading is the call's
+    pub fine-ends : end_of (rule_of file) r (top_of r store) ≡ finish_call file book r store
+    fine-ends = sym (finish-checked _ _ _ _ fine-passes)
 
-start-reading : (x : Checked) (r : Reading) (count : ℕ) → (start_of x r count).reading ≡ r
-unfolding start_of
-start-reading (checked.Fine rule) r count = refl
-start-reading (checked.Refused f) r count = refl
+    pub fine-state : r.state < rule.states
+    fine-state = (turn-ready fine-feeds).states.state_in
 
-module _ (file book : List ℕ) (r : Reading) (store : List Level) where
-  -- feeding may begin
-  pub start-goes : (x : Checked) (events : List ℕ) → checked_says x ≡ reading_answer file book r store
-      → CanGoOn file (rule_in x) book store events (start_of x r (length events))
-  unfolding rule_in start_of
-  start-goes (checked.Fine rule) events e =
-      record { within = omega arith; taken = λ _. refl; feeds = λ _. fine-feeds file book r store rule e }
-  start-goes (checked.Refused f) events e =
-      record { within = omega arith; taken = λ less. absurd (omega arith); feeds = λ less. absurd (omega arith) }
+  -- ---- a check that was refused
 
-  -- and what is left to come is what the call comes to
-  pub start-comes : (x : Checked) (ceiling : ℕ) (events : List ℕ) → checked_says x ≡ reading_answer file book r store
-      → rest (rule_of file) book ceiling store events (start_of x r (length events)) ≡ feed_call file book ceiling r store events
-  unfolding start_of rest rest_of refusal_says
-  start-comes (checked.Fine rule) ceiling events e = sym (feed-checked _ _ _ _ _ _ (fine-passes file book r store rule e))
-  start-comes (checked.Refused f) ceiling events e = sym (feed-unchecked _ _ _ _ _ _ (refused-reads file book r store f e))
+  module _ (f : Refusal) (stopped : reading_answer file book r store ≡ refusal_says f) where
+    refused-reads : reading_check file book r store ≡ refused f.number f.place
+    unfolding reading_answer refusal_says
+    refused-reads = giving-refused (reading_check file book r store) _ _ _ (λ R. (numbers_of R, refl)) stopped
 
-  pub start-gone : (x : Checked) (ceiling : ℕ) (events : List ℕ) → checked_says x ≡ reading_answer file book r store → {room : ℕ} {g : Going} {store' : List Level}
-      → Gone (rest (rule_of file) book ceiling store events (start_of x r (length events))) (start_of x r (length events)).reading room g store'
-      → Gone (feed_call file book ceiling r store events) r room g store'
-  start-gone x ceiling events e h =
-      let same : (start_of x r (length events)).reading ≡ r = start-reading x r (length events) in
-      rw (start-comes x ceiling events e, same) at h
+    -- no event is taken, and nothing changes
+    pub refused-fed : (ceiling : ℕ) (events : List ℕ)
+        → FedIs (feed_call file book ceiling r store events) r (record { taken = 0; reading = r; ended = Err f }) store
+    unfolding says refusal_says
+    refused-fed ceiling events =
+        rw (feed-unchecked file book r store ceiling events refused-reads)
+        (record { reading_is = refl; ended_is = refl; taken_is = omega arith; store_is = refl })
 
-  -- the reading may be ended
-  pub finish-needs : (x : Checked) → checked_says x ≡ reading_answer file book r store → (rule : Rule) → x ≡ checked.Fine rule
-      → RuleOf file rule × (r.state < rule.states)
-  finish-needs x e rule same =
-      let h = fine-feeds file book r store rule (rw same at e) in
-      (h.ruled, (turn-ready h).states.state_in)
-
-  pub finish-comes : (x : Checked) → checked_says x ≡ reading_answer file book r store
-      → (checked_says x giving λ rule. end_of (rule_of file) r (top_of r store)) ≡ finish_call file book r store
-  unfolding checked_says ◌giving◌ refusal_says
-  finish-comes (checked.Fine rule) e = sym (finish-checked _ _ _ _ (fine-passes file book r store rule e))
-  finish-comes (checked.Refused f) e = sym (finish-unchecked _ _ _ _ (refused-reads file book r store f e))
+    pub refused-ends : finish_call file book r store ≡ refusal_says f
+    unfolding refusal_says
+    refused-ends = finish-unchecked _ _ _ _ refused-reads
 
 -- what feeding answers, from where it ended
 pub fed-answer : {w : Went Stored} {before : Reading} {room : ℕ} {g : Going} {store : List Level} → Gone w before room g store

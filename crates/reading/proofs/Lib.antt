@@ -1,3 +1,4 @@
+pub mod Conditions
 pub mod Checks
 pub mod Starts
 pub mod WholeRead

@@ -1,31 +1,18 @@
 -- What feed and finish check first, as the code has it.
-use Rattle.std.specs.Prelude.{ℕ, ◌≤◌, Bool, ◌≡◌, List, length, get_or}
+use Rattle.std.specs.Prelude.{ℕ, Bool, List, get_or}
 use Rattle.meaning.specs.Answers.{Answer, given, ◌giving◌}
 use Rattle.meaning.specs.RuleFile.{is_state}
 use Rattle.meaning.specs.FullReading.{blank}
 use Rattle.meaning.specs.SkipBook.{all_below}
-use Rattle.meaning.specs.Calls.{top_of, reading_check}
+use Rattle.meaning.specs.Calls.{reading_check}
 use Rattle.meaning.specs.declared.Level.{Level}
 use Rattle.meaning.specs.declared.Reading.{Reading}
 use Rattle.rule.specs.Says.{numbers_of}
 use Rattle.rule.specs.declared.Rule.{Rule}
-use Rattle.rule.specs.declared.Checked.{Checked}
-use Rattle.rule.specs.declared.Checked.TheVariants as checked
 
 -- the stored states below a depth are all below n
 abbrev pub aboves_in : ℕ → ℕ → List Level → Bool
 aboves_in n depth store = all_below depth (λ i. is_state n (get_or store i blank).above)
-
--- the rule that a check gave, or four zeros
-unfoldable pub rule_in : Checked → Rule
-rule_in (checked.Fine rule) = rule
-rule_in (checked.Refused r) = record { states = 0; initial = 0; tree_start = 0; letters = 0 }
-
--- what was seen of a store: its length, whether the stored states below the depth are below n, and the innermost record
-pub record Seen (n : ℕ) (r : Reading) (store : List Level) (room : ℕ) (inside : Bool) (top : Level) : Type 0 where
-  pub room_is : length store ≡ room
-  pub inside_is : r.depth ≤ room → inside ≡ aboves_in n r.depth store
-  pub top_is : top_of r store ≡ top
 
 -- what feed and finish check first: rule, 6, 13; if all passes, the numbers of the rule
 unfoldable pub reading_answer : List ℕ → List ℕ → Reading → List Level → Answer Rule

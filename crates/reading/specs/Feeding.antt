@@ -1,7 +1,7 @@
 -- What feeding answers and what it leaves in the level store.
 use Rattle.std.specs.Prelude.{◌-◌, ◌≡◌, List}
 use Rattle.meaning.specs.FullReading.{Went}
-use Rattle.meaning.specs.Calls.{Stored, events_taken, feeding_says}
+use Rattle.meaning.specs.Calls.{Stored, events_taken, says}
 use Rattle.meaning.specs.declared.Fed.{Fed}
 use Rattle.meaning.specs.declared.Level.{Level}
 use Rattle.meaning.specs.declared.Reading.{Reading}
@@ -10,7 +10,7 @@ use Rattle.turning.specs.declared.Going.{Going}
 -- what feeding answers and leaves: the reading and the store after the events it took, how it ended, and how many it took
 pub record FedIs (w : Went Stored) (before : Reading) (r : Fed) (store : List Level) : Type 0 where
   pub reading_is : r.reading ≡ w.last.reading
-  pub ended_is : feeding_says r.ended ≡ w.ended
+  pub ended_is : says r.ended ≡ w.ended
   pub taken_is : r.taken ≡ events_taken before w
   pub store_is : store ≡ w.last.store
 

@@ -1,57 +1,43 @@
-// Feeding over the level store: where it begins, all events turn by turn, and what it answers.
-ghost use Rattle.std.specs.Prelude.{◌≡◌, ◌-◌, ◌≤◌, length};
+// Feeding over the level store: all events turn by turn, and what it answers.
+ghost use Rattle.std.specs.Prelude.{◌≡◌, ◌≤◌, length};
 ghost use Rattle.meaning.specs.RuleFile.{rule_of};
-ghost use Rattle.turning.specs.Advancing.{rest, start_of, CanGoOn, Gone};
+ghost use Rattle.meaning.specs.FullReading.{feed_by};
+ghost use Rattle.meaning.specs.Calls.{store_step};
+ghost use Rattle.turning.specs.Turns.{Feeds, over};
+ghost use Rattle.turning.specs.Advancing.{Gone};
 ghost use Rattle.reading.specs.Feeding.{fed_of};
 
-use levels::{level_at, put_level, room};
-use meaning::{Fed, Feeding, Level, Reading};
-use rule::{Checked, Rule};
-use turning::Going;
-use turning::advancing::{advance, top_place};
-
-// Where feeding begins: before the first event, or at the check's refusal with none left.
-#[tactic(auto, unfolding(turning::specs::Advancing::start_of))]
-pub fn started(checked: Checked, reading: Reading, count: usize) -> Going
-    ensures { result ≡ start_of checked reading count }
-{
-    match checked {
-        Checked::Fine(_) => Going {
-            reading,
-            next: 0,
-            ended: Feeding::AllTaken,
-        },
-        Checked::Refused(refusal) => Going {
-            reading,
-            next: count,
-            ended: Feeding::Refused(refusal),
-        },
-    }
-}
+use crate::store::{lay, top_of};
+use levels::room;
+use meaning::{Fed, Level, Reading};
+use rule::CheckedRule;
+use turning::{Going, Standing};
 
 // All events, turn by turn, until none is left. What a turn stores is laid in the level store, and what the next one reads is
 // read from it.
 pub fn feed_loop(
-    file: &[u8],
-    rule: Rule,
+    rule: CheckedRule,
     book: &[u64],
     ceiling: u32,
-    going: Going,
+    reading: Reading,
     levels: &mut [Level],
     events: &[u16],
 ) -> Going
-    requires { CanGoOn file.now rule book.now levels.old events.now going }
-    ensures { Gone (rest (rule_of file.now) book.now ceiling levels.old events.now going) going.reading (length levels.old) result levels.new }
+    requires { Feeds rule.file.now rule.rule book.now reading levels.old }
+    ensures { Gone (feed_by (store_step (rule_of rule.entry.file.now) book.now ceiling) (over reading levels.old) events.now) reading (length levels.old) result levels.new }
 {
     let count = room(&*levels);
-    let mut at = going;
+    let mut at = Going::on(reading, 0);
     while at.next < events.len() {
-        let place = top_place(at.reading);
-        let top = level_at(&*levels, place);
-        let turn = advance(
-            file, rule, book, count, ceiling, at.reading, top, events, at.next,
-        );
-        put_level(&mut *levels, turn.place, turn.level);
+        let standing = Standing {
+            rule,
+            room: count,
+            ceiling,
+            reading: at.reading,
+            top: top_of(at.reading, &*levels),
+        };
+        let turn = standing.advance(book, events, at.next);
+        lay(&mut *levels, turn.stores);
         at = turn.going;
     }
     at
@@ -63,11 +49,9 @@ pub fn fed_of(before: Reading, going: Going) -> Fed
     requires { before.taken ≤ going.reading.taken }
     ensures { result ≡ fed_of before going }
 {
-    let reading = going.reading;
-    let ended = going.ended;
     Fed {
-        taken: reading.taken - before.taken,
-        reading,
-        ended,
+        taken: going.reading.taken - before.taken,
+        reading: going.reading,
+        ended: going.ended,
     }
 }

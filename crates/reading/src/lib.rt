@@ -3,60 +3,50 @@
 #![tactic(auto)]
 
 mod checking;
-mod document;
 mod ending;
 mod feeding;
 mod opening;
+mod store;
 
 ghost use Rattle.std.specs.Prelude.{◌≡◌};
-ghost use Rattle.meaning.specs.Calls.{opened_says, open_call, opened_book, end_says, feed_call, finish_call, whole_document};
+ghost use Rattle.meaning.specs.Calls.{says, open_call, opened_book, end_says, feed_call, finish_call, whole_document};
 ghost use Rattle.reading.specs.Feeding.{FedIs};
 ghost use Rattle.reading.specs.Whole.{opened_reading, ReadIs};
 
-use checking::{admit, rule_in};
-use document::{LARGEST_CEILING, begin};
-use ending::{end_checked, end_fed};
-use feeding::{fed_of, feed_loop, started};
-use levels::level_at;
-use meaning::{End, Fed, Level, Opened, Reading};
+use checking::admit;
+use ending::end_of;
+use feeding::{fed_of, feed_loop};
+use meaning::{Fed, Judgement, Level, Opening, Reading, Refusal};
 use opening::open_rule;
-use rule::{Checked, Rule};
-use turning::advancing::top_place;
+use rule::CheckedRule;
+use store::top_of;
+
+// The largest ceiling.
+const LARGEST_CEILING: u32 = u32::MAX;
 
 // What feeding answers over levels of one's own: the answer, and the levels after it.
 #[derive(Clone, Copy)]
-pub struct FedArray {
+pub struct FedArray<const N: usize> {
     pub fed: Fed,
-    pub levels: [Level; 1024],
+    pub levels: [Level; N],
 }
 
 // Open a rule, given as the bytes of its file: the lent book is filled, and the answer is the fresh reading and how many states
 // are still. Whoever feeds that reading with that book skips; with a book of zeros it is read in full.
-pub fn open(file: &[u8], book: &mut [u64]) -> Opened
-    ensures answer { opened_says result ≡ open_call file.now book.old }
+pub fn open(file: &[u8], book: &mut [u64]) -> Result<Opening, Refusal>
+    ensures answer { says result ≡ open_call file.now book.old }
     ensures book_after { book.new ≡ opened_book file.now book.old }
 {
-    match Rule::of_file(file) {
-        Checked::Refused(refusal) => Opened::Refused(refusal),
-        Checked::Fine(rule) => open_rule(file, rule, book),
-    }
+    let rule = CheckedRule::of_file(file)?;
+    open_rule(rule, book)
 }
 
 // The reading that opening gave, or five zeros where it refused.
 #[tactic(auto, unfolding(crate::specs::Whole::opened_reading))]
-pub fn first_of(opened: Opened) -> Reading
+pub fn first_of<E: Copy>(opened: Result<Opening, E>) -> Reading
     ensures { result ≡ opened_reading opened }
 {
-    match opened {
-        Opened::Ready(opening) => opening.reading,
-        Opened::Refused(_) => Reading {
-            state: 0,
-            depth: 0,
-            skip: 0,
-            taken: 0,
-            looks: 0,
-        },
-    }
+    opened.map(|opening| opening.reading).unwrap_or_default()
 }
 
 // Feed events to a reading, over the lent level store. The rule check is once a call.
@@ -70,61 +60,72 @@ pub fn feed(
 ) -> Fed
     ensures { FedIs (feed_call file.now book.now ceiling reading levels.old events.now) reading result levels.new }
 {
-    let checked = admit(file, book, reading, &*levels);
-    let rule = rule_in(checked);
-    let going = started(checked, reading, events.len());
-    let last = feed_loop(file, rule, book, ceiling, going, &mut *levels, events);
-    fed_of(reading, last)
+    match admit(file, book, reading, &*levels) {
+        Ok(rule) => {
+            let last = feed_loop(rule, book, ceiling, reading, &mut *levels, events);
+            fed_of(reading, last)
+        }
+        Err(refusal) => Fed {
+            taken: 0,
+            reading,
+            ended: Err(refusal),
+        },
+    }
 }
 
 // The end of a reading: the verdict of its state, or a refusal where a level or skip depth is open.
-pub fn finish(file: &[u8], book: &[u64], reading: Reading, levels: &[Level]) -> End
+pub fn finish(
+    file: &[u8],
+    book: &[u64],
+    reading: Reading,
+    levels: &[Level],
+) -> Result<Judgement, Refusal>
     ensures { end_says result ≡ finish_call file.now book.now reading levels.now }
 {
-    let checked = admit(file, book, reading, levels);
-    let place = top_place(reading);
-    let top = level_at(levels, place);
-    end_checked(file, checked, reading, top)
+    let rule = admit(file, book, reading, levels)?;
+    end_of(rule, reading, top_of(reading, levels))
 }
 
 // Feed over levels of one's own, for a caller that holds them by value.
-pub fn feed_array(
+pub fn feed_array<const N: usize>(
     file: &[u8],
     book: &[u64],
     ceiling: u32,
     reading: Reading,
-    levels: [Level; 1024],
+    mut levels: [Level; N],
     events: &[u16],
-) -> FedArray
-    ensures { FedIs (feed_call file.now book.now ceiling reading levels events.now) reading result.fed result.levels }
+) -> FedArray<N>
+    ensures { FedIs (feed_call file.now book.now ceiling reading levels.entry events.now) reading result.fed result.levels }
 {
-    let mut store = levels;
-    let fed = feed(file, book, ceiling, reading, &mut store, events);
-    FedArray { fed, levels: store }
+    let fed = feed(file, book, ceiling, reading, &mut levels, events);
+    FedArray { fed, levels }
 }
 
 // Finish over levels of one's own.
-pub fn finish_array(file: &[u8], book: &[u64], reading: Reading, levels: [Level; 1024]) -> End
-    ensures { end_says result ≡ finish_call file.now book.now reading levels }
+pub fn finish_array<const N: usize>(
+    file: &[u8],
+    book: &[u64],
+    reading: Reading,
+    levels: [Level; N],
+) -> Result<Judgement, Refusal>
+    ensures { end_says result ≡ finish_call file.now book.now reading levels.entry }
 {
     finish(file, book, reading, &levels)
 }
 
-// A whole document: it opens, feeds and finishes, with the largest ceiling.
-pub fn read_document(file: &[u8], book: &mut [u64], levels: &mut [Level], events: &[u16]) -> End
+// A whole document: it opens, feeds and finishes, with the largest ceiling. The reading that opening gave and the book that it wrote
+// pass every check of feed and finish, so no other is made.
+pub fn read_document(
+    file: &[u8],
+    book: &mut [u64],
+    levels: &mut [Level],
+    events: &[u16],
+) -> Result<Judgement, Refusal>
     ensures { ReadIs (whole_document file.now book.old levels.old events.now) result book.new levels.new }
 {
-    let begun = begin(file, &mut *book, events.len());
-    let last = feed_loop(
-        file,
-        begun.rule,
-        &*book,
-        LARGEST_CEILING,
-        begun.going,
-        &mut *levels,
-        events,
-    );
-    let place = top_place(last.reading);
-    let top = level_at(&*levels, place);
-    end_fed(file, begun.rule, last, top)
+    let rule = CheckedRule::of_file(file)?;
+    let first = open_rule(rule, &mut *book)?.reading;
+    let last = feed_loop(rule, &*book, LARGEST_CEILING, first, &mut *levels, events);
+    last.ended?;
+    end_of(rule, last.reading, top_of(last.reading, &*levels))
 }

@@ -1,22 +1,22 @@
--- The end is the definition's, of the innermost record.
-use Rattle.std.proofs.Common.{ap, ◌∙◌, ℕ, get_or}
-use Rattle.meaning.specs.Answers.{◌giving◌}
-use Rattle.meaning.specs.FullReading.{blank}
-use Rattle.meaning.specs.RuleFile.{rule_of}
-use Rattle.meaning.specs.Calls.{top_of, end_of}
-use Rattle.meaning.specs.declared.Level.{Level}
-use Rattle.rule.specs.Says.{checked_says}
-use Rattle.reading.proofs.Checks.{finish-needs, finish-comes}
+-- The end is the definition's, of the innermost record, where the check passed, and the check's refusal where it did not.
+use Rattle.std.proofs.Common.{sym, ◌∙◌}
+use Rattle.std.proofs.lemmas.Result.{err_from_is_err_and}
+use Rattle.meaning.specs.Calls.{end_says}
+use Rattle.reading.proofs.Checks.{fine-state, fine-ends, refused-ends}
 use Rattle.reading.proofs.finish.Goals as goal
 
-pub end_checked-requires : goal.end_checked-requires
-end_checked-requires c =
-    finish-needs c.args.file.now c.args.book.now c.args.reading c.args.levels.now c.admit-checked.result c.admit-checked.ensures
+pub end_of-requires : goal.end_of-requires
+end_of-requires c = fine-state c.args.file.now c.args.book.now c.args.reading c.args.levels.now c.in_ok-rule.ensures.admits.1
+
+pub returns-in_err-rule : goal.returns-in_err-rule
+unfolding end_says
+returns-in_err-rule c =
+    let p = err_from_is_err_and c.from_residual.result c.from_residual.ensures.1 in
+    rw (p.1, p.2, end_says)
+    (sym (refused-ends c.args.file.now c.args.book.now c.args.reading c.args.levels.now _ c.in_err-rule.ensures.refuses))
 
 pub returns : goal.returns
-unfolding top_of
 returns c =
-    let innermost = c.level_at-top.ensures ∙ ap (λ (i : ℕ). get_or c.args.levels.now i blank) c.top_place-place.ensures in
-    c.end_checked.ensures
-    ∙ ap (λ (top : Level). checked_says c.admit-checked.result giving λ R. end_of (rule_of c.args.file.now) c.args.reading top) innermost
-    ∙ finish-comes c.args.file.now c.args.book.now c.args.reading c.args.levels.now c.admit-checked.result c.admit-checked.ensures
+    let passed = c.in_ok-rule.ensures.admits in
+    rw (c.top_of.ensures, passed.0) at c.end_of.ensures
+    ∙ fine-ends c.args.file.now c.args.book.now c.args.reading c.args.levels.now passed.1

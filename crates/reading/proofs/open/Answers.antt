@@ -1,22 +1,12 @@
--- The rule that the check gave is the file's; what it refused, opening refuses, and the book stays.
-use Rattle.std.proofs.Common.{sym}
-use Rattle.meaning.specs.Calls.{refusal_says, opened_says}
-use Rattle.meaning.proofs.skipbook.BookMade.{after-refused}
-use Rattle.meaning.proofs.stores.Opens.{open-unchecked}
-use Rattle.rule.proofs.Said.{refused-check}
-use Rattle.reading.proofs.Checks.{ruled-by}
+-- What the rule check refused, opening refuses, and the book stays.
+use Rattle.std.proofs.Common.{sym, ◌∙◌}
+use Rattle.meaning.proofs.laws.Handed.{handed_on}
+use Rattle.reading.proofs.Checks.{unchecked-opens, unchecked-stays}
 use Rattle.reading.proofs.open.Goals as goal
 
-pub open_rule-requires : goal.open_rule-requires
-open_rule-requires c = ruled-by _ c.in-Fine.rule (rw c.in-Fine.is at c.of_file.ensures)
+pub returns-in_err-rule-clause-answer : goal.returns-in_err-rule-clause-answer
+returns-in_err-rule-clause-answer c =
+    handed_on _ _ c.from_residual.ensures.1 ∙ sym (unchecked-opens c.args.file.now c.args.book.now _ c.in_err-rule.ensures.refuses)
 
-pub returns-in-Refused-clause-answer : goal.returns-in-Refused-clause-answer
-unfolding opened_says refusal_says
-returns-in-Refused-clause-answer c =
-    sym (open-unchecked c.args.file.now c.args.book.now (refused-check _ c.in-Refused.refusal (rw c.in-Refused.is at c.of_file.ensures)))
-
-pub returns-in-Refused-clause-book_after : goal.returns-in-Refused-clause-book_after
-unfolding opened_says refusal_says
-returns-in-Refused-clause-book_after c =
-    sym (after-refused _ _ _
-    (open-unchecked c.args.file.now c.args.book.now (refused-check _ c.in-Refused.refusal (rw c.in-Refused.is at c.of_file.ensures))))
+pub returns-in_err-rule-clause-book_after : goal.returns-in_err-rule-clause-book_after
+returns-in_err-rule-clause-book_after c = unchecked-stays c.args.file.now c.args.book.now _ c.in_err-rule.ensures.refuses

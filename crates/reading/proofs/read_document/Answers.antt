@@ -1,30 +1,53 @@
--- Feeding begins after opening, and what it comes to is ended as the definition says.
-use Rattle.std.proofs.Common.{ap, ◌∙◌, ℕ, get_or}
-use Rattle.meaning.specs.FullReading.{blank}
-use Rattle.meaning.specs.Calls.{top_of}
-use Rattle.reading.proofs.WholeRead.{document-goes, document-needs, document-comes}
+-- Each step that refuses ends the call with its refusal, and where none does, the end is the definition's.
+use Rattle.std.proofs.lemmas.Result.{err_from_is_err_and}
+use Rattle.meaning.proofs.laws.Handed.{was-given, was-refused}
+use Rattle.reading.proofs.Checks.{unchecked-opens, unchecked-stays}
+use Rattle.reading.proofs.WholeRead.{document-refused, opened-feeds, document-stops, document-state, document-ends}
 use Rattle.reading.proofs.read_document.Goals as goal
+
+pub returns-in_err-rule : goal.returns-in_err-rule
+returns-in_err-rule c =
+    let file = c.args.file.now in
+    let book = c.args.book.now in
+    let stopped = c.in_err-rule.ensures.refuses in
+    let p = err_from_is_err_and c.from_residual.result c.from_residual.ensures.1 in
+    rw (p.1, p.2)
+    (rw (← unchecked-stays file book _ stopped) at
+    (document-refused file book c.args.levels.now c.args.events.now _ (unchecked-opens file book _ stopped)))
+
+pub returns-in_err-first : goal.returns-in_err-first
+returns-in_err-first c =
+    let file = c.in_ok-rule.rule.file.now in
+    let p = err_from_is_err_and c.from_residual-in_err-first.result c.from_residual-in_err-first.ensures.1 in
+    rw (p.1, p.2, ← c.in_ok-rule.ensures.accepts.0, c.open_rule.ensures.book_after)
+    (document-refused file c.args.book.now c.args.levels.now c.args.events.now _ (was-refused _ c.in_err-first.ensures.answer))
 
 pub feed_loop-last-requires : goal.feed_loop-last-requires
 feed_loop-last-requires c =
-    let begins = rw c.begin-begun.ensures.book_is at c.begin-begun.ensures in
-    rw c.begin-begun.ensures.book_is
-    (document-goes c.args.file.now c.args.book.now c.args.levels.now c.args.events.now c.begin-begun.result begins)
+    let file = c.in_ok-rule.rule.file.now in
+    rw c.open_rule.ensures.book_after
+    (opened-feeds file c.args.book.now c.args.levels.now c.args.events.now (was-given c.in_ok-first.ensures.answer) c.in_ok-rule.rule.accepted)
 
-pub end_fed-requires : goal.end_fed-requires
-end_fed-requires c =
-    let begins = rw c.begin-begun.ensures.book_is at c.begin-begun.ensures in
-    let gone = rw c.begin-begun.ensures.book_is at c.feed_loop-last.ensures in
-    document-needs c.args.file.now c.args.book.now c.args.levels.now c.args.events.now c.begin-begun.result begins
-    c.feed_loop-last.result gone
+pub returns-in_err-last : goal.returns-in_err-last
+returns-in_err-last c =
+    let file = c.in_ok-rule.rule.file.now in
+    let gone = rw c.open_rule.ensures.book_after at c.feed_loop-last.ensures in
+    let p = err_from_is_err_and c.from_residual-in_err-last.result c.from_residual-in_err-last.ensures.1 in
+    rw (p.1, p.2, ← c.in_ok-rule.ensures.accepts.0, c.open_rule.ensures.book_after)
+    (document-stops file c.args.book.now c.args.levels.now c.args.events.now (was-given c.in_ok-first.ensures.answer) c.in_ok-rule.rule.accepted
+    gone _ c.in_err-last.was)
+
+pub end_of-requires : goal.end_of-requires
+end_of-requires c =
+    let file = c.in_ok-rule.rule.file.now in
+    let gone = rw c.open_rule.ensures.book_after at c.feed_loop-last.ensures in
+    document-state file c.args.book.now c.args.levels.now c.args.events.now (was-given c.in_ok-first.ensures.answer) c.in_ok-rule.rule.accepted
+    gone c.in_ok-last.was
 
 pub returns : goal.returns
-unfolding top_of
 returns c =
-    let begins = rw c.begin-begun.ensures.book_is at c.begin-begun.ensures in
-    let gone = rw c.begin-begun.ensures.book_is at c.feed_loop-last.ensures in
-    let last = c.feed_loop-last.result in
-    let innermost = c.level_at-top.ensures ∙ ap (λ (i : ℕ). get_or c.feed_loop-last.new.levels i blank) c.top_place-place.ensures in
-    let ends = rw innermost at c.end_fed.ensures in
-    rw c.begin-begun.ensures.book_is
-    (document-comes c.args.file.now c.args.book.now c.args.levels.now c.args.events.now c.begin-begun.result begins last gone ends)
+    let file = c.in_ok-rule.rule.file.now in
+    let gone = rw c.open_rule.ensures.book_after at c.feed_loop-last.ensures in
+    rw (← c.in_ok-rule.ensures.accepts.0, c.open_rule.ensures.book_after)
+    (document-ends file c.args.book.now c.args.levels.now c.args.events.now (was-given c.in_ok-first.ensures.answer) c.in_ok-rule.rule.accepted
+    gone c.in_ok-last.was (rw c.top_of.ensures at c.end_of.ensures))

@@ -1,41 +1,36 @@
--- What is seen of the store is what it holds.
-use Rattle.std.proofs.Common.{◌≡◌, sym, ap, ◌∙◌, ℕ, ◌-◌, ◌≤◌, List, length, get_or}
-use Rattle.meaning.specs.FullReading.{blank}
-use Rattle.meaning.specs.Calls.{top_of}
-use Rattle.meaning.specs.declared.Level.{Level}
-use Rattle.meaning.specs.declared.Reading.{Reading}
-use Rattle.rule.specs.declared.Rule.{Rule}
-use Rattle.reading.specs.Checks.{aboves_in, Seen}
+-- The rule, 6, 13: each by the law of the answer that it gives.
+use Rattle.std.proofs.Common.{sym, ◌∙◌, arith}
+use Rattle.std.proofs.lemmas.Result.{err_from_is_err_and}
+use Rattle.meaning.specs.Calls.{refusal_says, number_of}
+use Rattle.reading.proofs.Checks.{answer-rule, answer-short, answer-unread, answer-fine}
+use Rattle.turning.proofs.Turned.{states-are, few-states}
 use Rattle.reading.proofs.checking.admit.Goals as goal
 
-seen : (n : ℕ) (r : Reading) (levels : List Level) {room depth place : ℕ} {inside : _} {top : Level} → room ≡ length levels
-    → (r.depth ≤ room → depth ≡ r.depth) → inside ≡ aboves_in n depth levels → place ≡ r.depth - 1 → top ≡ get_or levels place blank
-    → Seen n r levels room inside top
-unfolding top_of
-seen n r levels count within in_all at read =
-    record {
-      room_is = sym count;
-      inside_is = λ h. in_all ∙ ap (λ (e : ℕ). aboves_in n e levels) (within h);
-      top_is = ap (λ (i : ℕ). get_or levels i blank) (sym at) ∙ sym read;
-    }
+pub returns-in_err-checked-clause-refuses : goal.returns-in_err-checked-clause-refuses
+returns-in_err-checked-clause-refuses c =
+    let p = err_from_is_err_and c.from_residual.result c.from_residual.ensures.1 in
+    rw (p.1, p.2) (answer-rule c.args.file.now _ _ _ _ c.in_err-checked.ensures.refuses)
 
-pub reading_answer-requires-clause-seen : goal.reading_answer-requires-clause-seen
-reading_answer-requires-clause-seen c =
-    let levels : List Level = c.args.levels.now in
-    let inside =
-    c.stored_in-inside.ensures ∙ ap (λ (R : Rule). aboves_in R.states c.depth_within-depth.result levels) c.rule_in-rule.ensures
-    in (
-      levels,
-      seen _ c.args.reading levels c.room-count.ensures c.depth_within-depth.ensures inside c.top_place-place.ensures
-          c.level_at-top.ensures,
+pub returns-then-book-checked-clause-refuses : goal.returns-then-book-checked-clause-refuses
+unfolding refusal_says number_of
+returns-then-book-checked-clause-refuses c =
+    let h = rw c.in_ok-checked.ensures.accepts.0 at c.in_ok-checked.checked.accepted in
+    rw (c.at.ensures.number, c.at.ensures.place) (answer-short _ _ _ _ h (omega (arith, c.if-book-checked.true)))
+
+pub not_reading-requires-clause-few_states : goal.not_reading-requires-clause-few_states
+not_reading-requires-clause-few_states c = few-states c.in_ok-checked.checked.accepted
+
+pub returns-then-not_reading-clause-refuses : goal.returns-then-not_reading-clause-refuses
+unfolding refusal_says number_of
+returns-then-not_reading-clause-refuses c =
+    let h = rw c.in_ok-checked.ensures.accepts.0 at c.in_ok-checked.checked.accepted in
+    rw (c.at-then-not_reading.ensures.number, c.at-then-not_reading.ensures.place)
+    (answer-unread _ _ _ _ h (omega (arith, c.if-book-checked.false)) (sym (c.not_reading.ensures _ (states-are h)) ∙ c.if-not_reading.true))
+
+pub returns-clause-admits : goal.returns-clause-admits
+returns-clause-admits c =
+    let accepts = c.in_ok-checked.ensures.accepts in
+    let h = rw accepts.0 at c.in_ok-checked.checked.accepted in (
+      accepts.0,
+      answer-fine _ _ _ _ h (omega (arith, c.if-book-checked.false)) (sym (c.not_reading.ensures _ (states-are h)) ∙ c.if-not_reading.false),
     )
-
-pub returns : goal.returns
-returns c =
-    let levels : List Level = c.args.levels.now in
-    let inside =
-    c.stored_in-inside.ensures ∙ ap (λ (R : Rule). aboves_in R.states c.depth_within-depth.result levels) c.rule_in-rule.ensures
-    in
-    c.reading_answer.ensures c.args.file.now levels c.of_file-checked.ensures
-    (seen _ c.args.reading levels c.room-count.ensures c.depth_within-depth.ensures inside c.top_place-place.ensures
-    c.level_at-top.ensures)

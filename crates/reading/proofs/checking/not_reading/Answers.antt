@@ -1,77 +1,93 @@
--- The six conditions in their order: each that holds is the definition's, and each that does not is passed.
-use Rattle.std.proofs.Common.{◌≡◌, sym, ◌∙◌, true, false, List, ℕ, ◌-◌, ◌<◌, ◌≤◌, length, arith}
-use borrow.Author.Tests.{lt-ltb, le-ltb, ltb-true}
-use Rattle.meaning.specs.Answers.{◌<?◌}
+-- The state and the store, the skip depth, and the counts: the first condition that holds is the definition's.
+use Rattle.std.proofs.Common.{◌≡◌, sym, ◌∙◌, not, Bool, false, ◌||◌, List, ℕ, ◌-◌, ◌<◌, get_or, arith}
+use borrow.Author.Tests.{ltb-true, not-false}
+use Rattle.meaning.specs.RuleFile as format
 use Rattle.meaning.specs.RuleFile.{is_state}
-use Rattle.meaning.specs.Calls.{top_of, not_reading}
+use Rattle.meaning.specs.FullReading.{blank}
+use Rattle.meaning.specs.Calls.{top_of, depth_past_store, skips_unsettled, levels_past_taken, looks_past_taken, not_reading}
 use Rattle.meaning.specs.declared.Level.{Level}
 use Rattle.meaning.specs.declared.Reading.{Reading}
+use Rattle.meaning.proofs.laws.Answered.{or-false}
 use Rattle.meaning.proofs.laws.Bools.{all-below}
-use Rattle.reading.specs.Checks.{aboves_in, Seen}
+use Rattle.reading.specs.Checks.{aboves_in}
+use Rattle.reading.proofs.Conditions.{or-holds, or-decides, holds-first, decides-last, in-a-row}
 use Rattle.reading.proofs.checking.not_reading.Goals as goal
+use Rattle.reading.proofs.checking.not_reading.Goals.{then-states_out, else-states_out}
 
--- ---- what each condition that does not hold says
+-- ---- what the state and the store say
 
-state-in : (n q : ℕ) → q < n → is_state n q ≡ true
-unfolding is_state
-state-in n q h = lt-ltb q n h
+abbrev out_of : ℕ → Reading → List Level → Bool
+out_of n r store = not (is_state n r.state) || (depth_past_store r store || not (aboves_in n r.depth store))
 
-depth-in : (r : Reading) (store : List Level) {n room : ℕ} {inside : _} {top : Level} → Seen n r store room inside top → r.depth ≤ room
-    → (length store <? r.depth) ≡ false
-depth-in r store seen h = le-ltb (length store) r.depth (omega (arith, seen.room_is))
+record Inside (n : ℕ) (r : Reading) (store : List Level) : Type 0 where
+  state_in : r.state < n
+  above_in : 0 < r.depth → (top_of r store).above < n
 
-pub returns-then-n-reading : goal.returns-then-n-reading
-unfolding not_reading is_state
-returns-then-n-reading c R store same seen = sym (rw (same, le-ltb _ _ c.if-n-reading.true))
-
-pub returns-then-room-reading : goal.returns-then-room-reading
-unfolding not_reading
-returns-then-room-reading c R store same seen =
-    let deep : (length store <? c.args.reading.depth) ≡ true =
-    lt-ltb (length store) c.args.reading.depth (omega (arith, seen.room_is, c.if-room-reading.true))
-    in
-    sym (rw (same, state-in c.args.n c.args.reading.state c.if-n-reading.false, deep))
-
-pub returns-then-not-inside : goal.returns-then-not-inside
-unfolding not_reading
-returns-then-not-inside c R store same seen =
-    let bad : aboves_in c.args.n c.args.reading.depth store ≡ false = sym (seen.inside_is c.if-room-reading.false) ∙ c.if-not-inside.true in
-    sym (rw (same, state-in c.args.n c.args.reading.state c.if-n-reading.false, depth-in c.args.reading store seen c.if-room-reading.false, bad))
+inside : (n : ℕ) (r : Reading) (store : List Level) → out_of n r store ≡ false → Inside n r store
+unfolding is_state top_of
+inside n r store none =
+    let state = or-false (not (is_state n r.state)) (depth_past_store r store || not (aboves_in n r.depth store)) none in
+    let stored = or-false (depth_past_store r store) (not (aboves_in n r.depth store)) state.1 in
+    let aboves = all-below r.depth (λ i. is_state n (get_or store i blank).above) (not-false _ stored.1) in
+    record {
+      state_in = ltb-true _ _ (not-false _ state.0);
+      above_in = λ deep. ltb-true _ _ (aboves (r.depth - 1) (omega arith));
+    }
 
 pub skips_unsettled-requires : goal.skips_unsettled-requires
-unfolding top_of is_state
+unfolding top_of
 skips_unsettled-requires c =
-    let r = c.args.reading in
-    let store : List Level = c.requires.seen.0 in
-    let seen = c.requires.seen.1 in
-    let aboves : aboves_in c.args.n r.depth store ≡ true = sym (seen.inside_is c.if-room-reading.false) ∙ c.if-not-inside.false in
-    let above : (inside : 0 < r.depth) → (top_of r store).above < c.args.n =
-    λ inside. ltb-true _ _ (all-below r.depth _ aboves (r.depth - 1) (omega arith))
-    in
-    rw (← seen.top_is)
+    let in_all = inside c.args.states c.args.reading c.args.levels.now (sym c.states_out.ensures ∙ c.if-states_out.false) in
+    rw c.top_of.ensures
     (record {
-      state_bit = omega (arith, c.requires.few_states, c.if-n-reading.false);
+      state_bit = omega (arith, c.requires.few_states, in_all.state_in);
       still_word = omega (arith, c.requires.long_book);
-      hold_word = λ inside. omega (arith, above inside, c.requires.long_book);
+      hold_word = λ deep. omega (arith, in_all.above_in deep, c.requires.long_book);
     })
 
+-- ---- the three parts in their order
+
+abbrev counts_of : Reading → Bool
+counts_of r = levels_past_taken r || looks_past_taken r
+
+row : (R : format.Rule) (n : ℕ) (book : List ℕ) (r : Reading) (store : List Level) → R.states ≡ n
+    → (out_of n r store || (skips_unsettled book r store || counts_of r)) ≡ not_reading R book r store
+unfolding not_reading
+row R n book r store same = rw same (in-a-row (not (is_state n r.state)) (depth_past_store r store) (not (aboves_in n r.depth store)) (skips_unsettled book r store || counts_of r))
+
 pub returns-then-skips_unsettled : goal.returns-then-skips_unsettled
-unfolding not_reading
-returns-then-skips_unsettled c R store same seen =
-    let aboves : aboves_in c.args.n c.args.reading.depth store ≡ true = sym (seen.inside_is c.if-room-reading.false) ∙ c.if-not-inside.false in
-    let skips = rw (← seen.top_is) at (sym c.skips_unsettled.ensures ∙ c.if-skips_unsettled.true) in
-    sym (rw (same, state-in c.args.n c.args.reading.state c.if-n-reading.false, depth-in c.args.reading store seen c.if-room-reading.false, aboves, skips))
+unfolding top_of
+returns-then-skips_unsettled c R same =
+    let n = c.args.states in
+    let book = c.args.book.now in
+    let r = c.args.reading in
+    let store = c.args.levels.now in
+    let first : c.if-states_out.value ≡ (out_of n r store || skips_unsettled book r store)
+    = elim c.if-states_out.branch [
+      | then-states_out w ↦
+          or-holds _ _ (sym c.states_out.ensures ∙ w.if-states_out.true) (w.value-is ∙ c.states_out.ensures)
+      | else-states_out w ↦
+          or-decides _ _ (sym c.states_out.ensures ∙ w.if-states_out.false)
+          (w.value-is ∙ rw w.top_of.ensures at w.skips_unsettled.ensures)
+    ]
+    in
+    holds-first (out_of n r store) (skips_unsettled book r store) (counts_of r) first c.if-skips_unsettled.true ∙ row R n book r store same
 
-pub returns-then-reading : goal.returns-then-reading
-unfolding not_reading
-returns-then-reading c R store same seen =
-    let aboves : aboves_in c.args.n c.args.reading.depth store ≡ true = sym (seen.inside_is c.if-room-reading.false) ∙ c.if-not-inside.false in
-    let skips = rw (← seen.top_is) at (sym c.skips_unsettled.ensures ∙ c.if-skips_unsettled.false) in
-    sym (rw (same, state-in c.args.n c.args.reading.state c.if-n-reading.false, depth-in c.args.reading store seen c.if-room-reading.false, aboves, skips, lt-ltb _ _ c.if-reading.true))
-
-pub returns : goal.returns
-unfolding not_reading
-returns c R store same seen =
-    let aboves : aboves_in c.args.n c.args.reading.depth store ≡ true = sym (seen.inside_is c.if-room-reading.false) ∙ c.if-not-inside.false in
-    let skips = rw (← seen.top_is) at (sym c.skips_unsettled.ensures ∙ c.if-skips_unsettled.false) in
-    sym (rw (same, state-in c.args.n c.args.reading.state c.if-n-reading.false, depth-in c.args.reading store seen c.if-room-reading.false, aboves, skips, le-ltb _ _ c.if-reading.false))
+pub returns-else-skips_unsettled : goal.returns-else-skips_unsettled
+unfolding top_of
+returns-else-skips_unsettled c R same =
+    let n = c.args.states in
+    let book = c.args.book.now in
+    let r = c.args.reading in
+    let store = c.args.levels.now in
+    let first : c.if-states_out.value ≡ (out_of n r store || skips_unsettled book r store)
+    = elim c.if-states_out.branch [
+      | then-states_out w ↦
+          or-holds _ _ (sym c.states_out.ensures ∙ w.if-states_out.true) (w.value-is ∙ c.states_out.ensures)
+      | else-states_out w ↦
+          or-decides _ _ (sym c.states_out.ensures ∙ w.if-states_out.false)
+          (w.value-is ∙ rw w.top_of.ensures at w.skips_unsettled.ensures)
+    ]
+    in
+    decides-last (out_of n r store) (skips_unsettled book r store) (counts_of r) first c.if-skips_unsettled.false c.counts_out.ensures
+    ∙ row R n book r store same

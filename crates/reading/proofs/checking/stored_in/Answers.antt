@@ -1,22 +1,29 @@
--- One record more.
-use Rattle.std.proofs.Common.{◌≡◌, sym, ap, ◌∙◌, refl, ◌&&◌, List, ℕ, ◌+◌, get_or, add-one, arith}
+-- The records below the depth are those that the store begins with.
+use Rattle.std.proofs.Common.{◌≡◌, sym, ap, ◌∙◌, refl, ◌&&◌, Bool, List, ℕ, zero, suc, ◌≤◌, length, take, get_or, add-one, arith, rules}
+use Rattle.std.specs.List.{list_all}
+use Rattle.std.proofs.lemmas.Iterator.{YieldsList-from_slice, YieldsList-from_take}
+use Rattle.std.proofs.lemmas.Iterator.Search.{all_from_yields_List}
+use borrow.Author.Tests.{tests}
+use Rattle.meaning.specs.Answers.{◌<?◌}
+use Rattle.std.proofs.lemmas.List.Folds.{list_all_more}
 use Rattle.meaning.specs.declared.Level.{Level}
 use Rattle.meaning.specs.FullReading.{blank}
 use Rattle.meaning.specs.RuleFile.{is_state}
 use Rattle.meaning.specs.SkipBook.{all_below}
-use Rattle.reading.specs.Checks.{aboves_in}
 use Rattle.reading.proofs.checking.stored_in.Goals as goal
 
-one_more : (n i : ℕ) (store : List Level) → (aboves_in n i store && is_state n (get_or store i blank).above) ≡ aboves_in n (i + 1) store
+first_all : (f : Level → Bool) (store : List Level) (depth : ℕ) → depth ≤ length store
+    → list_all f (take depth store) ≡ all_below depth (λ i. f (get_or store i blank))
 unfolding all_below
-one_more n i store = ap (λ (j : ℕ). aboves_in n j store) (sym (add-one i))
+first_all f store zero deep = refl
+first_all f store (suc d) deep =
+    ap (λ (n : ℕ). list_all f (take n store)) (sym (add-one d))
+    ∙ (list_all_more f store d blank (omega arith)
+    ∙ ap (λ (b : Bool). b && f (get_or store d blank)) (first_all f store d (omega arith)))
 
-pub loop-i-init : goal.loop-i-init
-unfolding all_below
-loop-i-init c = (omega arith, refl)
-
-pub loop-i-preserved : goal.loop-i-preserved
-loop-i-preserved c = (
-  omega arith,
-  c.inside_with-inside.ensures ∙ rw (c.level_at-level.ensures, c.loop-i.invariant.1) (one_more c.args.states c.loop-i.i c.args.levels.now),
-)
+pub returns : goal.returns
+unfolding is_state
+returns c deep =
+    all_from_yields_List (λ (level : Level). level.above <? c.args.states) _ _ _ c.all.ensures.ran
+    (YieldsList-from_take c.args.depth (YieldsList-from_slice c.args.levels.now cc) cc) (λ x b q k. search (rules, tests))
+    ∙ first_all (λ (level : Level). is_state c.args.states level.above) c.args.levels.now c.args.depth deep

@@ -5,4 +5,4 @@ use Rattle.reading.proofs.opening.fresh_reading.Goals as goal
 
 pub returns : goal.returns
 unfolding fresh_reading
-returns c file h = rw (initial-is h)
+returns c file h = rw (initial-is h) cc
