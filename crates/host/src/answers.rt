@@ -79,7 +79,10 @@ fn counted(count: u32, reading: Reading) -> [u64; 6]
 
 // The answer of a call that gives its values only where it was not refused.
 #[tactic(auto, unfolding(crate::specs::Numbers::answer_numbers, meaning::specs::Calls::says, meaning::specs::Calls::refusal_says))]
-pub fn lay_answer<const N: usize, T: Values<N>>(answered: Result<T, Refusal>, answer: &mut [u64]) -> bool
+pub fn lay_answer<const N: usize, T: Values<N>>(
+    answered: Result<T, Refusal>,
+    answer: &mut [u64],
+) -> bool
     ensures { Laid (answer_numbers T.values (says answered)) answer.old result answer.new }
 {
     match answered {

@@ -17,9 +17,9 @@ use answers::{lay_answer, lay_fed};
 use meaning::{Level, Reading};
 use reading::{feed, finish, open, read_document};
 use rule::Rule;
-use rule::writer::write;
+use rule::writer::{Parts, write};
 
-// A host hands a reading over as five numbers.
+// A reading is five parameters in the C interface, of venticapro_feed and venticapro_finish.
 fn reading_of(state: u8, depth: u32, skip: u32, taken: u32, looks: u32) -> Reading
     ensures { result ≡ reading_from state depth skip taken looks }
 {
@@ -56,17 +56,19 @@ pub extern "C" fn venticapro_write_rule(
     ensures laid { Laid (answer_numbers count_value (write_check (rule_from states initial tree_start letters letter_moves.now tree_moves.now classes.now) (length output.old))) answer.old result answer.new }
     ensures output_after { output.new ≡ output_after (write_check (rule_from states initial tree_start letters letter_moves.now tree_moves.now classes.now) (length output.old)) (rule_from states initial tree_start letters letter_moves.now tree_moves.now classes.now) output.old }
 {
-    let written = write(
+    let rule = Rule {
         states,
         initial,
         tree_start,
         letters,
+    };
+    let parts = Parts {
+        rule,
         letter_moves,
         tree_moves,
         classes,
-        output,
-    );
-    lay_answer(written, answer)
+    };
+    lay_answer(write(parts, output), answer)
 }
 
 // Open: how many states are still, and the fresh reading, its state and its four counts; the book lies in the words lent. A host
@@ -99,7 +101,7 @@ pub extern "C" fn venticapro_feed(
     ensures { FeedLaid (feed_call file.now book.now ceiling (reading_from state depth skip taken looks) levels.old events.now) (reading_from state depth skip taken looks) answer.old result levels.new answer.new }
 {
     let reading = reading_of(state, depth, skip, taken, looks);
-    let fed = feed(file, book, ceiling, reading, &mut *levels, events);
+    let fed = feed(file, book, ceiling, reading, levels, events);
     lay_fed(fed, answer)
 }
 
@@ -120,8 +122,7 @@ pub extern "C" fn venticapro_finish(
     ensures { Laid (answer_numbers judged_values (finish_call file.now book.now (reading_from state depth skip taken looks) levels.now)) answer.old result answer.new }
 {
     let reading = reading_of(state, depth, skip, taken, looks);
-    let end = finish(file, book, reading, levels);
-    lay_answer(end, answer)
+    lay_answer(finish(file, book, reading, levels), answer)
 }
 
 // A whole document: the class of the verdict and the end state.
@@ -136,6 +137,5 @@ pub extern "C" fn venticapro_read_document(
 ) -> bool
     ensures { DocumentLaid (whole_document file.now book.old levels.old events.now) answer.old result book.new levels.new answer.new }
 {
-    let end = read_document(file, &mut *book, &mut *levels, events);
-    lay_answer(end, answer)
+    lay_answer(read_document(file, book, levels, events), answer)
 }
