@@ -36,7 +36,7 @@ impl<'a> Standing<'a> {
                 going: Going {
                     reading: self.reading,
                     next: events.len(),
-                    ended: Err(reason.at(self.reading.taken as usize)),
+                    ended: Err(reason),
                 },
                 stores: None,
             },
