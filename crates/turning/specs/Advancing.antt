@@ -12,6 +12,7 @@ use Rattle.meaning.specs.declared.Refusal.{Refusal}
 use Rattle.meaning.specs.declared.reason.Reason.{Reason}
 use Rattle.rule.specs.declared.Rule.{Rule}
 use Rattle.turning.specs.Turns.{Feeds, over}
+use Rattle.turning.specs.declared.Standing.{Standing}
 use Rattle.turning.specs.declared.Going.{Going}
 use Rattle.turning.specs.declared.Entry.{Entry}
 use Rattle.turning.specs.declared.Advance.{Advance}
@@ -52,6 +53,13 @@ pub record Advances (file : List ℕ) (rule : Rule) (book : List ℕ) (ceiling :
   pub goes : CanGoOn file rule book (stored a.stores store) events a.going
   pub comes : rest (rule_of file) book ceiling (stored a.stores store) events a.going
       ≡ feed_by (store_step (rule_of file) book ceiling) (over r store) (drop next events)
+
+-- the same, of what an event is judged by
+abbrev pub FeedsBy : List ℕ → Standing → List Level → Type 0
+FeedsBy book s store = Feeds s.rule.file.now s.rule.rule book s.reading store
+
+abbrev pub AdvancesBy : List ℕ → Standing → List Level → List ℕ → ℕ → Advance → Type 0
+AdvancesBy book s store events next a = Advances s.rule.file.now s.rule.rule book s.ceiling store s.reading events next a
 
 -- all turns: feeding has come to its end
 pub record Gone (w : Went Stored) (before : Reading) (room : ℕ) (g : Going) (store : List Level) : Type 0 where

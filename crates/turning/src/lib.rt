@@ -52,7 +52,6 @@ pub struct Going {
 }
 
 impl Going {
-    ghost use Rattle.std.specs.Prelude.{◌≡◌, Ok};
     ghost use Rattle.turning.specs.Advancing.{ended_at};
 
     // Feeding goes on at the event given: none was refused.
