@@ -52,6 +52,6 @@ pub fn fed_of(before: Reading, going: Going) -> Fed
     Fed {
         taken: going.reading.taken - before.taken,
         reading: going.reading,
-        ended: going.ended,
+        ended: going.end(),
     }
 }
