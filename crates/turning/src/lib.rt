@@ -28,7 +28,7 @@ pub struct Standing<'a> {
 
 // What one event leads to where it is not refused: the open levels stay, a record is stored for one more level, or the innermost
 // level ends.
-#[derive(Clone, Copy)]
+#[derive(Clone, Copy, Debug, PartialEq, Eq)]
 pub enum Turn {
     Stays(Reading),
     Stores(Level, Reading),
@@ -36,7 +36,7 @@ pub enum Turn {
 }
 
 // Where passing over a run of events was left: the reading there, and the index of the next event.
-#[derive(Clone, Copy)]
+#[derive(Clone, Copy, Debug, PartialEq, Eq)]
 pub struct PassedTo {
     pub reading: Reading,
     pub next: usize,
@@ -44,7 +44,7 @@ pub struct PassedTo {
 
 // Where feeding stands: the reading there, the index of the next event, and whether one was refused, as then none is left. The place
 // of a refused event is not kept beside its reason, since the reading has it: the count of events taken.
-#[derive(Clone, Copy)]
+#[derive(Clone, Copy, Debug, PartialEq, Eq)]
 pub struct Going {
     pub reading: Reading,
     pub next: usize,
@@ -76,14 +76,14 @@ impl Going {
 }
 
 // A record to store, with its place in the level store.
-#[derive(Clone, Copy)]
+#[derive(Clone, Copy, Debug, PartialEq, Eq)]
 pub struct Entry {
     pub place: usize,
     pub level: Level,
 }
 
 // What one turn leads to: where feeding stands then, and the record to store, if there is one.
-#[derive(Clone, Copy)]
+#[derive(Clone, Copy, Debug, PartialEq, Eq)]
 pub struct Advance {
     pub going: Going,
     pub stores: Option<Entry>,
