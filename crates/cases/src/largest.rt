@@ -2,77 +2,86 @@
 // lead to the next state, so that Reach takes every round there is before nothing more is added. In the other a tree move leads to
 // the next state, with the state itself as lower state: so does the set of the tree start, and the last move waits for all of it.
 use crate::lines;
-use meaning::Opened;
-use rule::{Rule, writer};
-use std::io;
+use rule::Rule;
+use rule::writer::{self, Parts};
+use std::{array, io};
 
-const LETTER_MOVES: usize = 16384;
+const STATES: usize = Rule::MOST_STATES as usize;
 
-const TREE_MOVES: usize = 4096;
+const LETTERS: usize = Rule::MOST_LETTERS as usize;
 
-const STATES: usize = 64;
+const LETTER_MOVES: usize = STATES * LETTERS;
 
-const LONGEST: usize = 20573;
+const TREE_MOVES: usize = STATES * STATES;
+
+const LONGEST: usize = 29 + LETTER_MOVES + TREE_MOVES + STATES;
+
+// A rule that never moves, with every class accepting and no tree start.
+const NO_MOVE: Parts<'static> = Parts {
+    rule: Rule {
+        states: 64,
+        initial: 0,
+        tree_start: Rule::NONE,
+        letters: 256,
+    },
+    letter_moves: &[Rule::NONE; LETTER_MOVES],
+    tree_moves: &[Rule::NONE; TREE_MOVES],
+    classes: &[2; STATES],
+};
 
 // The next state, and a state of its own for the last one.
 fn next_of(state: usize, last: u8) -> u8 {
     if state < 63 { state as u8 + 1 } else { last }
 }
 
-// What stands at a place of the letter moves, a row for each state; and of the tree moves, where only a state with itself as
-// lower state has a move, and the last one goes back.
-fn move_at(place: usize, of_letters: bool) -> u8 {
-    if of_letters {
-        return next_of(place / 256, 63);
-    }
-    if place % 65 == 0 {
-        return next_of(place / 65, 62);
-    }
-    255
-}
-
-// A table that leads from each state to the next.
-fn next_states(moves: &mut [u8], of_letters: bool) {
-    let mut i = 0;
-    while i < moves.len() {
-        moves[i] = move_at(i, of_letters);
-        i += 1;
-    }
-}
-
 fn book_of(rt: &impl Print, name: &str, file: &[u8]) -> io::Result<()> {
-    let mut book = [0u64; 65];
-    let answer = reading::open(file, &mut book);
-    match answer {
-        Opened::Ready(opening) => {
+    let mut book = [0; 65];
+    match reading::open(file, &mut book) {
+        Ok(opening) => {
             println!(rt;
                 "{name} {} {} {} {}",
                 opening.still, book[0], book[1], book[64]
             )
         }
-        Opened::Refused(r) => println!(rt; "{name} {}", r.number),
+        Err(refusal) => println!(rt; "{name} {}", refusal.number),
     }
 }
 
 pub fn letters(rt: &impl Print) -> io::Result<()> {
-    let mut moves = [0u8; LETTER_MOVES];
-    next_states(&mut moves, true);
-    let trees = [255u8; TREE_MOVES];
-    let classes = [2u8; STATES];
-    let mut file = [0u8; LONGEST];
-    let answer = writer::write(64, 0, 255, 256, &moves, &trees, &classes, &mut file);
-    lines::written(rt, "the largest rule", answer)?;
+    // a row for each state
+    let moves: [u8; LETTER_MOVES] = array::from_fn(|place| next_of(place / LETTERS, 63));
+    let parts = Parts {
+        letter_moves: &moves,
+        ..NO_MOVE
+    };
+    let mut file = [0; LONGEST];
+    lines::written(rt, "the largest rule", writer::write(parts, &mut file))?;
     lines::checked(rt, "the largest rule read back", Rule::of_file(&file))?;
     book_of(rt, "the largest rule's book", &file)
 }
 
 pub fn trees(rt: &impl Print) -> io::Result<()> {
-    let moves = [255u8; LETTER_MOVES];
-    let mut trees = [0u8; TREE_MOVES];
-    next_states(&mut trees, false);
-    let classes = [2u8; STATES];
-    let mut file = [0u8; LONGEST];
-    let answer = writer::write(64, 0, 0, 256, &moves, &trees, &classes, &mut file);
-    lines::written(rt, "the longest chain of trees", answer)?;
+    // only a state with itself as lower state has a move, and the last one goes back
+    let moves: [u8; TREE_MOVES] = array::from_fn(|place| {
+        if place % 65 == 0 {
+            next_of(place / 65, 62)
+        } else {
+            Rule::NONE
+        }
+    });
+    let parts = Parts {
+        rule: Rule {
+            tree_start: 0,
+            ..NO_MOVE.rule
+        },
+        tree_moves: &moves,
+        ..NO_MOVE
+    };
+    let mut file = [0; LONGEST];
+    lines::written(
+        rt,
+        "the longest chain of trees",
+        writer::write(parts, &mut file),
+    )?;
     book_of(rt, "the longest chain's book", &file)
 }

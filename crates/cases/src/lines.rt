@@ -1,58 +1,83 @@
 // A line for each case: its name, and what the call answered.
-use meaning::{End, Fed, Feeding, Opened, Refusal, Verdict};
-use rule::{Checked, Written};
-use std::io;
+use meaning::{Judgement, Opening, Refusal};
+use rule::Rule;
+use std::{fmt, io};
 
-fn refused(rt: &impl Print, name: &str, r: Refusal) -> io::Result<()> {
-    println!(rt; "{name} refused {} {}", r.number, r.place)
+// What a call gave that was not refused.
+#[derive(Clone, Copy)]
+pub enum Given {
+    Fine(Rule),
+    Bytes(usize),
+    Ready(Opening),
+    Taken(u32),
+    Judged { judgement: Judgement, looks: u32 },
 }
 
-fn class(v: Verdict) -> &'static str {
-    match v {
-        Verdict::OffSchema => "off-schema",
-        Verdict::Reject => "reject",
-        Verdict::Accept => "accept",
+impl fmt::Display for Given {
+    fn fmt<W: fmt::Write>(&self, f: &mut fmt::Formatter<W>) -> fmt::Result {
+        match *self {
+            Given::Fine(rule) => write!(f, "fine {} {}", rule.states, rule.letters),
+            Given::Bytes(count) => write!(f, "bytes {count}"),
+            Given::Ready(opening) => {
+                write!(f, "state {} still {}", opening.reading.state, opening.still)
+            }
+            Given::Taken(events) => write!(f, "taken {events}"),
+            Given::Judged { judgement, looks } => {
+                write!(f, "{} {} {looks}", judgement.verdict, judgement.state)
+            }
+        }
     }
 }
 
-pub fn end(rt: &impl Print, name: &str, e: End, looks: u32) -> io::Result<()> {
-    match e {
-        End::Judged(j) => println!(rt; "{name} {} {} {looks}", class(j.verdict), j.state),
-        End::Refused(r) => refused(rt, name, r),
+// What a call answered: what it gave, or the number and the place of its refusal.
+#[derive(Clone, Copy)]
+struct Answer(Result<Given, Refusal>);
+
+impl fmt::Display for Answer {
+    fn fmt<W: fmt::Write>(&self, f: &mut fmt::Formatter<W>) -> fmt::Result {
+        match self.0 {
+            Ok(given) => write!(f, "{given}"),
+            Err(refusal) => write!(f, "refused {} {}", refusal.number, refusal.place),
+        }
     }
 }
 
-pub fn fed(rt: &impl Print, name: &str, f: Fed) -> io::Result<()> {
-    match f.ended {
-        Feeding::AllTaken => println!(rt; "{name} taken {}", f.taken),
-        Feeding::Refused(r) => refused(rt, name, r),
-    }
+pub fn line(rt: &impl Print, name: &str, answer: Result<Given, Refusal>) -> io::Result<()> {
+    println!(rt; "{name} {}", Answer(answer))
 }
 
-pub fn checked(rt: &impl Print, name: &str, c: Checked) -> io::Result<()> {
-    match c {
-        Checked::Fine(rule) => println!(rt; "{name} fine {} {}", rule.states, rule.letters),
-        Checked::Refused(r) => refused(rt, name, r),
-    }
+pub fn checked(rt: &impl Print, name: &str, checked: Result<Rule, Refusal>) -> io::Result<()> {
+    line(rt, name, checked.map(Given::Fine))
 }
 
-pub fn written(rt: &impl Print, name: &str, w: Written) -> io::Result<()> {
-    match w {
-        Written::Bytes(count) => println!(rt; "{name} bytes {count}"),
-        Written::Refused(r) => refused(rt, name, r),
-    }
+pub fn written(rt: &impl Print, name: &str, written: Result<usize, Refusal>) -> io::Result<()> {
+    line(rt, name, written.map(Given::Bytes))
 }
 
 // What opening answered, and the words of the book after it.
-pub fn opened(rt: &impl Print, name: &str, o: Opened, book: [u64; 4]) -> io::Result<()> {
-    match o {
-        Opened::Ready(opening) => {
-            print!(rt;
-                "{name} state {} still {}",
-                opening.reading.state, opening.still
-            )?;
-        }
-        Opened::Refused(r) => print!(rt; "{name} refused {} {}", r.number, r.place)?,
-    }
-    println!(rt; " book {} {} {} {}", book[0], book[1], book[2], book[3])
+pub fn opened(
+    rt: &impl Print,
+    name: &str,
+    opened: Result<Opening, Refusal>,
+    book: [u64; 4],
+) -> io::Result<()> {
+    let [first, second, third, fourth] = book;
+    println!(rt;
+        "{name} {} book {first} {second} {third} {fourth}",
+        Answer(opened.map(Given::Ready))
+    )
+}
+
+// The end of a reading, after so many looks.
+pub fn end(
+    rt: &impl Print,
+    name: &str,
+    end: Result<Judgement, Refusal>,
+    looks: u32,
+) -> io::Result<()> {
+    line(
+        rt,
+        name,
+        end.map(|judgement| Given::Judged { judgement, looks }),
+    )
 }

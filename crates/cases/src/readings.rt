@@ -1,103 +1,127 @@
 // Readings that are none, and the limits of a reading: numbers 6, 13, 16 and 12.
-use crate::documents::{MOST, book_a};
+use crate::lines;
 use crate::rules::rule_a;
-use crate::{lines, stores};
+use crate::stores::{Case, ENOUGH, at_depth, reading_and_book};
 use meaning::{Level, Reading};
 use std::io;
 
-fn reading_at(state: u8, depth: u32, skip: u32, taken: u32, looks: u32) -> Reading {
-    Reading {
-        state,
-        depth,
-        skip,
-        taken,
-        looks,
+// One event fed to a reading, by some book, over levels with a state above them.
+fn feedings(rt: &impl Print) -> io::Result<()> {
+    let file = rule_a();
+    let (fresh, book) = reading_and_book(&file);
+    let one = Case {
+        name: "a fresh reading",
+        events: &[2],
+        ..Case::opened(&file, &book)
+    };
+    let short = Case {
+        name: "a book too short to read with",
+        book: &[0; 3],
+        ..one
+    };
+    let out = Case {
+        name: "a state of n",
+        reading: Reading { state: 3, ..fresh },
+        ..one
+    };
+    for case in [one, short, out] {
+        case.tell_fed(rt, [Level::default(); ENOUGH])?;
     }
+    let deep = Case {
+        name: "three levels in a store of two",
+        reading: at_depth(3),
+        ..one
+    };
+    deep.tell_fed(rt, [Level::default(); 2])?;
+    let stored = Case {
+        name: "a stored state of n",
+        reading: at_depth(1),
+        ..one
+    };
+    let above = Level {
+        above: 3,
+        ..Level::default()
+    };
+    stored.tell_fed(rt, [above; ENOUGH])?;
+    let readings = [
+        (
+            "skipping on an unsettled level",
+            Reading {
+                skip: 1,
+                taken: 1,
+                looks: 1,
+                ..fresh
+            },
+        ),
+        ("more levels than events", Reading { depth: 1, ..fresh }),
+        (
+            "more looks than events",
+            Reading {
+                taken: 1,
+                looks: 2,
+                ..fresh
+            },
+        ),
+        (
+            "the last event but one",
+            Reading {
+                taken: u32::MAX - 1,
+                ..fresh
+            },
+        ),
+        (
+            "all events taken already",
+            Reading {
+                taken: u32::MAX,
+                ..fresh
+            },
+        ),
+    ];
+    for (name, reading) in readings {
+        let case = Case {
+            name,
+            reading,
+            ..one
+        };
+        case.tell_fed(rt, [Level::default(); ENOUGH])?;
+    }
+    Ok(())
 }
 
-// One event fed to a reading over levels with a state above them, by some book.
-fn feed_with(
-    rt: &impl Print,
-    name: &str,
-    reading: Reading,
-    above: u8,
-    book: &[u64],
-) -> io::Result<()> {
+// Ends, over levels of which the second was opened at another place than the rest.
+fn finishings(rt: &impl Print) -> io::Result<()> {
     let file = rule_a();
-    let levels = [Level { above, opened: 0 }; 1024];
-    let outcome = stores::over_many(&file, book, MOST, reading, levels, &[2]);
-    lines::fed(rt, name, outcome.fed)
-}
-
-// The same by rule A's own book.
-fn feed_one(rt: &impl Print, name: &str, reading: Reading, above: u8) -> io::Result<()> {
-    let book = book_a();
-    feed_with(rt, name, reading, above, &book)
-}
-
-// The same over two levels.
-fn feed_over_two(rt: &impl Print, name: &str, reading: Reading) -> io::Result<()> {
-    let file = rule_a();
-    let book = book_a();
-    let levels = [stores::blank(); 2];
-    let outcome = stores::over_two(&file, &book, MOST, reading, levels, &[2]);
-    lines::fed(rt, name, outcome.fed)
-}
-
-// The end of a reading whose second level was opened at another place than the rest.
-fn finish_at(rt: &impl Print, name: &str, reading: Reading, opened: u32) -> io::Result<()> {
-    let file = rule_a();
-    let book = book_a();
+    let (fresh, book) = reading_and_book(&file);
     let mut levels = [Level {
-        above: 0,
         opened: 9,
-    }; 1024];
-    levels[1] = Level { above: 0, opened };
-    lines::end(
-        rt,
-        name,
-        reading::finish_array(&file, &book, reading, levels),
-        reading.looks,
-    )
+        ..Level::default()
+    }; ENOUGH];
+    levels[1].opened = 11;
+    let inside = Reading {
+        taken: 20,
+        looks: 20,
+        ..at_depth(2)
+    };
+    let out = Reading { state: 3, ..fresh };
+    let last = Reading {
+        state: 2,
+        taken: 3,
+        looks: 3,
+        ..fresh
+    };
+    let ends = [
+        ("the innermost opening", inside),
+        ("a state of n at the end", out),
+        ("an end", last),
+    ];
+    for (name, reading) in ends {
+        let end = reading::finish_array(&file, &book, reading, levels);
+        lines::end(rt, name, end, reading.looks)?;
+    }
+    Ok(())
 }
 
 pub fn refusals(rt: &impl Print) -> io::Result<()> {
-    feed_one(rt, "a fresh reading", reading_at(0, 0, 0, 0, 0), 0)?;
-    feed_with(
-        rt,
-        "a book too short to read with",
-        reading_at(0, 0, 0, 0, 0),
-        0,
-        &[0, 0, 0],
-    )?;
-    feed_one(rt, "a state of n", reading_at(3, 0, 0, 0, 0), 0)?;
-    feed_over_two(
-        rt,
-        "three levels in a store of two",
-        reading_at(0, 3, 0, 3, 3),
-    )?;
-    feed_one(rt, "a stored state of n", reading_at(0, 1, 0, 1, 1), 3)?;
-    feed_one(
-        rt,
-        "skipping on an unsettled level",
-        reading_at(0, 0, 1, 1, 1),
-        0,
-    )?;
-    feed_one(rt, "more levels than events", reading_at(0, 1, 0, 0, 0), 0)?;
-    feed_one(rt, "more looks than events", reading_at(0, 0, 0, 1, 2), 0)?;
-    feed_one(
-        rt,
-        "the last event but one",
-        reading_at(0, 0, 0, 0xffff_fffe, 0),
-        0,
-    )?;
-    feed_one(
-        rt,
-        "all events taken already",
-        reading_at(0, 0, 0, 0xffff_ffff, 0),
-        0,
-    )?;
-    finish_at(rt, "the innermost opening", reading_at(0, 2, 0, 20, 20), 11)?;
-    finish_at(rt, "a state of n at the end", reading_at(3, 0, 0, 0, 0), 0)?;
-    finish_at(rt, "an end", reading_at(2, 0, 0, 3, 3), 0)
+    feedings(rt)?;
+    finishings(rt)
 }

@@ -2,11 +2,11 @@
 use Rattle.std.proofs.Common.{◌≡◌, drop}
 use Rattle.std.specs.Slice.Iter.{chunks_rest, chunks_size}
 use Rattle.turning.specs.PassingOver.{PassedIn}
-use Rattle.turning.proofs.passing.pass_run.Given as goal
+use Rattle.turning.proofs.passing.Run.pass.Given as goal
 
 abbrev pub invariant-loop-block : goal.invariant-loop-block
 invariant-loop-block l = record {
   size : chunks_size l.block-iterator ≡ 256;
-  left : chunks_rest l.block-iterator ≡ drop l.passed.count l.events;
-  passed : PassedIn l.known l.fn.skip l.events l.passed;
+  left : chunks_rest l.block-iterator ≡ drop l.passed.count l.self.events.now;
+  passed : PassedIn l.self.known l.self.skip l.self.events.now l.passed;
 }
