@@ -3,7 +3,8 @@
 use Rattle.std.specs.Prelude.{ℕ, ◌≡◌, Bool, List, [], ◌∷◌, ◌++◌, length, drop, if◌then◌else◌}
 use Rattle.meaning.specs.Answers.{Answer, given, refused, ◌≤?◌}
 use Rattle.meaning.specs.FullReading.{Went}
-use Rattle.meaning.specs.Calls.{Judged, Stored, events_taken, Whole}
+use Rattle.meaning.specs.Calls.{Judged, Stored, events_taken, Whole, verdict_says}
+use Rattle.meaning.specs.declared.Judgement.{Judgement}
 use Rattle.meaning.specs.declared.Level.{Level}
 use Rattle.meaning.specs.declared.Opening.{Opening}
 use Rattle.meaning.specs.declared.Reading.{Reading}
@@ -47,6 +48,10 @@ opening_values o = o.still ∷ reading_values o.reading
 -- the class of the verdict, and the end state
 abbrev pub judged_values : Judged → List ℕ
 judged_values j = j.class ∷ j.state ∷ []
+
+-- the same of the verdict itself
+abbrev pub judgement_values : Judgement → List ℕ
+judgement_values j = verdict_says j.verdict ∷ j.state ∷ []
 
 -- Feeding has its values also where it was refused: the events that it took, and the reading after them.
 unfoldable pub fed_numbers : Answer Unit → ℕ → Reading → List ℕ

@@ -13,18 +13,31 @@ ghost use Rattle.rule.specs.Says.{check_answer};
 ghost use Rattle.rule.specs.Checks.{rule_from};
 ghost use Rattle.host.specs.Numbers.{Laid, answer_numbers, rule_values, count_value, opening_values, judged_values, reading_from, FeedLaid, DocumentLaid};
 
-use answers::{lay_checked, lay_end, lay_fed, lay_opened, lay_written};
+use answers::{lay_answer, lay_fed};
 use meaning::{Level, Reading};
 use reading::{feed, finish, open, read_document};
 use rule::Rule;
-use rule::writer::write;
+use rule::writer::{Parts, write};
+
+// A reading is five parameters in the C interface, of venticapro_feed and venticapro_finish.
+fn reading_of(state: u8, depth: u32, skip: u32, taken: u32, looks: u32) -> Reading
+    ensures { result ≡ reading_from state depth skip taken looks }
+{
+    Reading {
+        state,
+        depth,
+        skip,
+        taken,
+        looks,
+    }
+}
 
 // The rule check: n, the initial state, the tree start and k.
 #[unsafe(no_mangle)]
 pub extern "C" fn venticapro_check_rule(file: &[u8], answer: &mut [u64]) -> bool
     ensures { Laid (answer_numbers rule_values (check_answer file.now)) answer.old result answer.new }
 {
-    lay_checked(Rule::of_file(file), answer)
+    lay_answer(Rule::of_file(file), answer)
 }
 
 // The writer: the count of bytes, which lie in the output.
@@ -43,17 +56,19 @@ pub extern "C" fn venticapro_write_rule(
     ensures laid { Laid (answer_numbers count_value (write_check (rule_from states initial tree_start letters letter_moves.now tree_moves.now classes.now) (length output.old))) answer.old result answer.new }
     ensures output_after { output.new ≡ output_after (write_check (rule_from states initial tree_start letters letter_moves.now tree_moves.now classes.now) (length output.old)) (rule_from states initial tree_start letters letter_moves.now tree_moves.now classes.now) output.old }
 {
-    let written = write(
+    let rule = Rule {
         states,
         initial,
         tree_start,
         letters,
+    };
+    let parts = Parts {
+        rule,
         letter_moves,
         tree_moves,
         classes,
-        output,
-    );
-    lay_written(written, answer)
+    };
+    lay_answer(write(parts, output), answer)
 }
 
 // Open: how many states are still, and the fresh reading, its state and its four counts; the book lies in the words lent. A host
@@ -64,7 +79,7 @@ pub extern "C" fn venticapro_open(file: &[u8], book: &mut [u64], answer: &mut [u
     ensures laid { Laid (answer_numbers opening_values (open_call file.now book.old)) answer.old result answer.new }
     ensures book_after { book.new ≡ opened_book file.now book.old }
 {
-    lay_opened(open(file, book), answer)
+    lay_answer(open(file, book), answer)
 }
 
 // Feeding: the events it took and the reading after them, also where an event is refused. The level store is lent as records:
@@ -85,19 +100,14 @@ pub extern "C" fn venticapro_feed(
 ) -> bool
     ensures { FeedLaid (feed_call file.now book.now ceiling (reading_from state depth skip taken looks) levels.old events.now) (reading_from state depth skip taken looks) answer.old result levels.new answer.new }
 {
-    let reading = Reading {
-        state,
-        depth,
-        skip,
-        taken,
-        looks,
-    };
-    let fed = feed(file, book, ceiling, reading, &mut *levels, events);
+    let reading = reading_of(state, depth, skip, taken, looks);
+    let fed = feed(file, book, ceiling, reading, levels, events);
     lay_fed(fed, answer)
 }
 
 // The end of a reading: the class of the verdict and the end state.
 #[unsafe(no_mangle)]
+#[tactic(auto, using(crate::proofs::Same::judged_alike))]
 pub extern "C" fn venticapro_finish(
     file: &[u8],
     book: &[u64],
@@ -111,19 +121,13 @@ pub extern "C" fn venticapro_finish(
 ) -> bool
     ensures { Laid (answer_numbers judged_values (finish_call file.now book.now (reading_from state depth skip taken looks) levels.now)) answer.old result answer.new }
 {
-    let reading = Reading {
-        state,
-        depth,
-        skip,
-        taken,
-        looks,
-    };
-    let end = finish(file, book, reading, levels);
-    lay_end(end, answer)
+    let reading = reading_of(state, depth, skip, taken, looks);
+    lay_answer(finish(file, book, reading, levels), answer)
 }
 
 // A whole document: the class of the verdict and the end state.
 #[unsafe(no_mangle)]
+#[tactic(auto, using(crate::proofs::Same::judged_alike))]
 pub extern "C" fn venticapro_read_document(
     file: &[u8],
     book: &mut [u64],
@@ -133,6 +137,5 @@ pub extern "C" fn venticapro_read_document(
 ) -> bool
     ensures { DocumentLaid (whole_document file.now book.old levels.old events.now) answer.old result book.new levels.new answer.new }
 {
-    let end = read_document(file, &mut *book, &mut *levels, events);
-    lay_end(end, answer)
+    lay_answer(read_document(file, book, levels, events), answer)
 }

@@ -6,12 +6,14 @@ use lib.ListN.{length}
 use borrow.Author.Tests.{lt-ltb, le-ltb, eq-eqb, ne_eqb}
 use Rattle.meaning.specs.Answers.{given, refused, refuse◌at◌when◌otherwise◌, ◌=?◌}
 use Rattle.meaning.specs.RuleFile.{Rule, header_length, number2, number4, check_rule}
-use Rattle.meaning.specs.CheckProgram.{EventsAt, events_kind, events_header, events_place, front_check}
+use Rattle.meaning.specs.CheckProgram as program
+use Rattle.meaning.specs.CheckProgram.{events_kind, events_header, events_place, front_check}
 use Rattle.meaning.proofs.laws.Answered.{refuse-passes, refuse-stops, giving-passes, giving-stops, if-true, if-false}
 use Rattle.meaning.specs.Calls.{refusal_says}
 use Rattle.meaning.proofs.stores.OneAnswer.{given-says, refusal-says}
-use Rattle.input.specs.declared.Front.{Front}
-use Rattle.input.specs.declared.Front.TheVariants as front
+use Rattle.std.specs.Prelude.{Result, Ok, Err}
+use Rattle.meaning.specs.declared.Refusal.{Refusal}
+use Rattle.input.specs.declared.EventsAt.{EventsAt}
 use Rattle.input.specs.Says.{front_says, header_answer}
 
 module _ (input : List ℕ) (place : ℕ) where
@@ -63,13 +65,13 @@ bad-rule input {number} e other = rw e (giving-stops _ (if-false _ _ (ne_eqb num
 
 -- ---- two answers that say the same are the same
 
-pub front-says : (a b : Front) → front_says a ≡ front_says b → a ≡ b
+pub front-says : (a b : Result EventsAt Refusal) → front_says a ≡ front_says b → a ≡ b
 unfolding front_says refusal_says
-front-says (front.Events a) (front.Events b) e =
-    let same : ◌≡◌ {A = EventsAt} _ _ = given-says _ _ e in
+front-says (Ok a) (Ok b) e =
+    let same : ◌≡◌ {A = program.EventsAt} _ _ = given-says _ _ e in
     let places = ap (λ f. f.place) same in
     let sizes = ap (λ f. f.size) same in
-    λ i. front.Events (record { place = places i; size = sizes i })
-front-says (front.Events a) (front.Refused b) e = cc
-front-says (front.Refused a) (front.Events b) e = cc
-front-says (front.Refused a) (front.Refused b) e = ap front.Refused (refusal-says a b e)
+    λ i. Ok (record { place = places i; size = sizes i })
+front-says (Ok a) (Err b) e = cc
+front-says (Err a) (Ok b) e = cc
+front-says (Err a) (Err b) e = ap Err (refusal-says a b e)

@@ -1,10 +1,9 @@
 -- Events decoded into the front of a lent slice: as many as there are whole pairs of bytes, and no more than fit.
-use Rattle.std.specs.Prelude.{ℕ, ◌*◌, ◌/◌, List, ◌++◌, take, drop, if◌then◌else◌}
-use Rattle.meaning.specs.Answers.{◌≤?◌}
+use Rattle.std.specs.Prelude.{ℕ, ◌*◌, ◌/◌, min, List, ◌++◌, take, drop}
 use Rattle.meaning.specs.CheckProgram.{events_in}
 
-unfoldable pub event_count : ℕ → ℕ → ℕ
-event_count bytes places = if bytes / 2 ≤? places then bytes / 2 else places
+abbrev pub event_count : ℕ → ℕ → ℕ
+event_count bytes places = min (bytes / 2) places
 
 -- the slice after so many events were decoded into its front
 unfoldable pub decoded : ℕ → List ℕ → List ℕ → List ℕ

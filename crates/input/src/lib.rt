@@ -1,104 +1,65 @@
 // The check program's input: where the record of events stands, and the events in its bytes.
 #![tactic(auto)]
 
-ghost use Rattle.std.specs.Prelude.{◌≡◌, ◌+◌, ◌*◌, ◌≤◌, length};
-ghost use Rattle.meaning.specs.Answers.{refused};
-ghost use Rattle.meaning.specs.CheckProgram.{events_header, front_check};
+ghost use Rattle.std.specs.Prelude.{◌≡◌, ◌≤◌, length};
+ghost use Rattle.meaning.specs.CheckProgram.{front_check};
 ghost use Rattle.input.specs.Decoding.{event_count, decoded};
 ghost use Rattle.input.specs.Says.{front_says, header_answer};
 
-use meaning::Refusal;
+use meaning::{Reason, Refusal};
 use rule::tables::HEADER;
-use rule::{Checked, Rule, check};
+use rule::{Kind, Rule, check};
 
 // Where the record of events starts, which is where the rule's file ends, and how many bytes its body has.
-#[derive(Clone, Copy)]
+#[derive(Clone, Copy, Debug, PartialEq, Eq)]
 pub struct EventsAt {
     pub place: usize,
     pub size: u32,
 }
 
-// What the front of an input says: where its events are, or the refusal of a bad record.
-#[derive(Clone, Copy)]
-pub enum Front {
-    Events(EventsAt),
-    Refused(Refusal),
-}
-
-// The kind of the record that holds the events.
-const EVENTS: u16 = 5;
-
-#[tactic(auto, unfolding(crate::specs::Says::front_says, meaning::specs::Calls::refusal_says))]
-fn refuse(number: u8, place: usize) -> Front
-    ensures { front_says result ≡ refused number place }
-{
-    Front::Refused(Refusal { number, place })
-}
-
 // The header of the record of events.
-#[tactic(auto, using(crate::proofs::Headers::header_cases), unfolding(crate::specs::Says::front_says))]
-fn header_at(front: &[u8], place: usize) -> Front
+#[tactic(auto, using(crate::proofs::Headers::header_cases), unfolding(crate::specs::Says::front_says, meaning::specs::Calls::refusal_says, meaning::specs::Calls::number_of, rule::specs::Checks::kind_code))]
+fn header_at(front: &[u8], place: usize) -> Result<EventsAt, Refusal>
     ensures { front_says result ≡ header_answer front.now place }
 {
     let count = front.len();
-    if count < HEADER {
-        return refuse(1, count);
+    if count < HEADER || count - HEADER < place {
+        return Err(Reason::CutShort.at(count));
     }
-    if count - HEADER < place {
-        return refuse(1, count);
-    }
-    if check::number2(front, place + 4) != EVENTS {
-        return refuse(2, place + 4);
+    if check::number2(front, place + 4) != Kind::Events.code() {
+        return Err(Reason::WrongKind.at(place + 4));
     }
     let size = check::number4(front, place);
     if size % 2 == 1 {
-        return refuse(3, place);
+        return Err(Reason::WrongLength.at(place));
     }
-    Front::Events(EventsAt { place, size })
+    Ok(EventsAt { place, size })
 }
 
-// The front of an input, which holds the rule's records and a header: where the record of events stands. The rule check
-// refuses it by the bytes after the fourth record, and there the fifth begins.
-pub fn events_at(front: &[u8]) -> Front
+// The front of an input, which holds the rule's records and a header: where the record of events stands, or the refusal of a bad
+// record. The rule check refuses it by the bytes after the fourth record, and there the fifth begins.
+pub fn events_at(front: &[u8]) -> Result<EventsAt, Refusal>
     ensures { front_says result ≡ front_check front.now }
 {
     match Rule::of_file(front) {
-        Checked::Fine(_) => refuse(1, front.len()),
-        Checked::Refused(refusal) => {
-            if refusal.number == 5 {
-                return header_at(front, refusal.place);
-            }
-            Front::Refused(refusal)
+        Ok(_) => Err(Reason::CutShort.at(front.len())),
+        Err(refusal) if refusal.number == Reason::BytesAfter.number() => {
+            header_at(front, refusal.place)
         }
+        Err(refusal) => Err(refusal),
     }
 }
 
-// How many events so many bytes hold, two bytes each, and so many places take.
-fn event_count(bytes: usize, places: usize) -> usize
-    ensures { result ≡ event_count bytes places }
-{
-    let events = bytes / 2;
-    if events <= places { events } else { places }
-}
-
-// The event that two bytes stand for.
-fn event(low: u8, high: u8) -> u16
-    ensures { result ≡ low + 256 * high }
-{
-    low as u16 + (high as u16) * 256
-}
-
-// The events that bytes hold, into the front of a lent slice; the rest stays. It answers their count.
+// The events that bytes hold, two bytes each, into the front of a lent slice, as many as find a slot; the rest stays. It answers
+// their count.
 pub fn decode(bytes: &[u8], events: &mut [u16]) -> usize
     ensures count { result ≡ event_count (length bytes.now) (length events.old) }
     ensures fits { result ≤ length events.old }
     ensures events { events.new ≡ decoded result bytes.now events.old }
 {
-    let count = event_count(bytes.len(), events.len());
-    let mut i = 0;
-    while i < count {
-        events[i] = event(bytes[i * 2], bytes[i * 2 + 1]);
-        i += 1;
+    let count = (bytes.len() / 2).min(events.len());
+    for (i, event) in events[..count].iter_mut().enumerate() {
+        *event = check::number2(bytes, i * 2);
     }
     count
 }

@@ -9,8 +9,8 @@ mod verdict;
 pub use reason::Reason;
 pub use verdict::{NoClass, Verdict};
 
-// A refusal: its number in document 01's table, and the place that the table gives it. The number is not a `Reason`, since
-// `program::passes::go_on` and `program::body::refused_text` promise an answer for any.
+// A refusal: its number in document 01's table, and the place that the table gives it. The number is no `Reason`, since
+// `program::passes::Pass::end_of` and `program::body::refused_text` promise an answer for any number.
 #[derive(Clone, Copy, Debug, PartialEq, Eq, Hash)]
 pub struct Refusal {
     pub number: u8,

@@ -1,22 +1,19 @@
 -- A block after the bytes so far: its events after theirs, and both readings after both.
 use mathlib.Core.Path.{◌≡◌, refl, sym, ap, ◌∙◌}
 use mathlib.Core.Bool.{Bool, true, false}
-use mathlib.Core.List.{List, [], ◌∷◌, ◌++◌, append_assoc}
-use Prim.Native.Nat.{ℕ, zero, suc, ◌+◌, ◌*◌, ◌/◌, ◌%◌, ◌≤◌, ◌<◌}
-use native.Mathlib.Numerals.{add-one}
+use mathlib.Core.List.{List, [], ◌∷◌, ◌++◌}
+use Prim.Native.Nat.{ℕ, zero, suc, ◌+◌, ◌*◌, ◌/◌, ◌%◌, ◌≤◌}
 use native.Mathlib.Omega.{arith}
-use lib.ListN.{length, get_or, take, drop, set, length-append}
-use lib.Seq.{take_at, take-suc, take_all, drop-cons, set_at, length-take-le}
+use lib.ListN.{length, take, drop, length-append}
+use lib.Seq.{take_at, take_all, length-take-le}
+use Rattle.std.proofs.Common.{Option, None, Some, IsSome, IfSome, IsSomeAnd}
 use Rattle.meaning.specs.CheckProgram.{events_in, program_fed}
 use Rattle.input.specs.Decoding.{event_count, decoded}
 use Rattle.input.proofs.Pairs.{count-all, events-length}
 use Rattle.program.specs.declared.body.Body.{Body}
 use Rattle.program.specs.Passes.{pass_says, fed_on}
-use Rattle.program.specs.Bodies.{block_length, zero_book, Within, Carried}
-use Rattle.program.proofs.Feeds.{fed-more}
-
-pub not-both : {b : Bool} → b ≡ true → b ≡ false → ⊥
-not-both e f = let z : ◌≡◌ {A = ℕ} 0 1 = cc in omega arith
+use Rattle.program.specs.Bodies.{block_length, zero_book, Took, Carried}
+use Rattle.program.proofs.Feeds.{fed-more, not-both}
 
 -- ---- the events of bytes
 
@@ -51,12 +48,6 @@ decoded-front block events n short room counted =
 
 -- ---- bytes carried into a block
 
-pub carry-more : (i : ℕ) (front block : List ℕ) → i < length front → i < length block
-    → set (take i front ++ drop i block) i (get_or front i 0) ≡ take (i + 1) front ++ drop (i + 1) block
-carry-more i front block h g =
-    rw (drop-cons block i 0 g, add-one i, take-suc front i 0 h, append_assoc)
-    (set_at (take i front) (get_or block i 0) (drop (suc i) block) (get_or front i 0) i (length-take-le i front (omega arith)))
-
 -- what was carried is the front, where the block takes all of it
 pub carried-front : {front block after : List ℕ} {count : ℕ} → Carried front block count after → length front ≤ length block
     → take count after ≡ front
@@ -68,23 +59,42 @@ carried-front {front} {block} {after} {count} c fits =
 
 -- ---- both readings
 
+-- so many bytes more, while all are of the record
+grown : (before after : Option ℕ) (n more size : ℕ) → before ≡ Some n → IsSome after
+    → IfSome after (λ m. IsSomeAnd before (λ k. m ≡ k + more) × (m ≤ size)) → (after ≡ Some (n + more)) × (n + more ≤ size)
+grown before None n more size e some h = absurd (not-both some refl)
+grown before (Some m) n more size e some h =
+    let sum : m ≡ n + more = rw e at h.0 in (ap Some sum, omega (arith, sum, h.1))
+
+was_some : (before after : Option ℕ) (more size : ℕ) → IsSome after
+    → IfSome after (λ m. IsSomeAnd before (λ k. m ≡ k + more) × (m ≤ size)) → IsSome before
+was_some before None more size some h = absurd (not-both some refl)
+was_some None (Some m) more size some h = absurd h.0
+was_some (Some k) (Some m) more size some h = refl
+
 module _ (file book : List ℕ) (size : ℕ) (body next : Body) (bytes block : List ℕ) where
-  pub within_more : Within file book size body bytes → length bytes % 2 ≡ 0
-      → next.taken ≡ body.taken + length block → length bytes + length block ≤ size
+  pub took-more : Took file book size body bytes → length bytes % 2 ≡ 0 → IsSome next.taken
+      → IfSome next.taken (λ m. IsSomeAnd body.taken (λ k. m ≡ k + length block) × (m ≤ size))
       → pass_says next.both.skip ≡ fed_on file book (pass_says body.both.skip) (events_in block)
       → pass_says next.both.full ≡ fed_on file zero_book (pass_says body.both.full) (events_in block)
-      → Within file book size next (bytes ++ block)
-  within_more so_far even counted fits skip full =
+      → Took file book size next (bytes ++ block)
+  took-more took even some within skip full =
+      let so_far = took.while_within (was_some body.taken next.taken (length block) size some within) in
+      let sum = grown body.taken next.taken (length bytes) (length block) size so_far.taken_is some within in
       let more : events_in (bytes ++ block) ≡ events_in bytes ++ events_in block = events-append bytes block even in
       record {
-        taken_is = simp length-append (omega (arith, so_far.taken_is));
-        in_record = simp length-append fits;
-        skip_is =
-            skip
-            ∙ (ap (λ w. fed_on file book w (events_in block)) so_far.skip_is
-            ∙ (fed-more file book (events_in bytes) (events_in block) ∙ ap (program_fed file book) (sym more)));
-        full_is =
-            full
-            ∙ (ap (λ w. fed_on file zero_book w (events_in block)) so_far.full_is
-            ∙ (fed-more file zero_book (events_in bytes) (events_in block) ∙ ap (program_fed file zero_book) (sym more)));
+        while_within = λ e.
+            record {
+              taken_is = sum.0 ∙ ap Some (sym (length-append bytes block));
+              in_record = simp length-append sum.1;
+              skip_is =
+                  skip
+                  ∙ (ap (λ w. fed_on file book w (events_in block)) so_far.skip_is
+                  ∙ (fed-more file book (events_in bytes) (events_in block) ∙ ap (program_fed file book) (sym more)));
+              full_is =
+                  full
+                  ∙ (ap (λ w. fed_on file zero_book w (events_in block)) so_far.full_is
+                  ∙ (fed-more file zero_book (events_in bytes) (events_in block) ∙ ap (program_fed file zero_book) (sym more)));
+            };
+        when_after = λ e. absurd (not-both some e);
       }

@@ -1,6 +1,6 @@
 -- The body of the record of events as the check program has it: both readings of the bytes so far, and when these bytes are all
 -- of an input's.
-use Rattle.std.specs.Prelude.{ℕ, ◌+◌, ◌≤◌, ◌<◌, min, ◌≡◌, true, false, List, [], ◌++◌, length, take, drop, replicate}
+use Rattle.std.specs.Prelude.{ℕ, ◌+◌, ◌≤◌, ◌<◌, min, ◌≡◌, List, [], ◌++◌, length, take, drop, replicate, Some, IsSome, IsNone}
 use Rattle.meaning.specs.Answers.{Answer, given, ◌giving◌}
 use Rattle.meaning.specs.RuleFile.{header_length}
 use Rattle.meaning.specs.FullReading.{Went}
@@ -32,15 +32,15 @@ pub record Carried (front block : List ℕ) (count : ℕ) (after : List ℕ) : T
 
 -- both readings of the bytes of the record so far, which has so many bytes
 pub record Within (file book : List ℕ) (size : ℕ) (body : Body) (bytes : List ℕ) : Type 0 where
-  pub taken_is : body.taken ≡ length bytes
+  pub taken_is : body.taken ≡ Some (length bytes)
   pub in_record : length bytes ≤ size
   pub skip_is : pass_says body.both.skip ≡ program_fed file book (events_in bytes)
   pub full_is : pass_says body.both.full ≡ program_fed file zero_book (events_in bytes)
 
 -- a body that took these bytes: they are of the record, or go on after it
 pub record Took (file book : List ℕ) (size : ℕ) (body : Body) (bytes : List ℕ) : Type 0 where
-  pub while_within : body.after ≡ false → Within file book size body bytes
-  pub when_after : body.after ≡ true → size < length bytes
+  pub while_within : IsSome body.taken → Within file book size body bytes
+  pub when_after : IsNone body.taken → size < length bytes
 
 -- ---- the whole input
 
@@ -52,7 +52,7 @@ pub record HasRead (file book : List ℕ) (size : ℕ) (body : Body) (input byte
   pub book_is : book ≡ program_book file
   pub took : Took file book size body bytes
   pub body_is : drop (length file + header_length) input ≡ bytes ++ rest
-  pub all_read : body.after ≡ false → rest ≡ []
+  pub all_read : IsSome body.taken → rest ≡ []
 
 -- the line of what was fed, and the lines of both readings
 unfoldable pub fed_line : List ℕ → List ℕ → Went Stored → Answer Line

@@ -1,33 +1,23 @@
 -- Bytes laid into a text, and the line of a reading.
-use Rattle.std.specs.Prelude.{ℕ, ◌≤◌, ◌≡◌, List, ◌++◌, length, take}
+use Rattle.std.specs.Prelude.{ℕ, ◌≡◌, List, ◌++◌, take, Result}
 use Rattle.meaning.specs.Answers.{Answer, given, ◌giving◌}
 use Rattle.meaning.specs.Calls.{Judged, verdict_says, end_says}
 use Rattle.meaning.specs.CheckProgram.{Line}
-use Rattle.meaning.specs.declared.End.{End}
 use Rattle.meaning.specs.declared.Judgement.{Judgement}
 use Rattle.meaning.specs.declared.Reading.{Reading}
-use Rattle.program.specs.declared.text.Text.{Text}
+use Rattle.meaning.specs.declared.Refusal.{Refusal}
 
 -- the bytes that a text has room for
 abbrev pub text_room : ℕ
 text_room = 192
-
--- the bytes of a text
-unfoldable pub text_says : Text → List ℕ
-text_says t = take t.count t.bytes
-
--- it has no more bytes than room
-pub record InRoom (t : Text) : Type 0 where
-  pub room_is : length t.bytes ≡ text_room
-  pub within : t.count ≤ text_room
 
 -- more bytes after those that are there; what finds no room is left out
 unfoldable pub laid : List ℕ → List ℕ → List ℕ
 laid there more = take text_room (there ++ more)
 
 -- one text after another, with more bytes laid
-pub record Lays (before : Text) (more : List ℕ) (after : Text) : Type 0 where
-  pub says : InRoom before → InRoom after × (text_says after ≡ laid (text_says before) more)
+pub record Lays (before more after : List ℕ) : Type 0 where
+  pub says : after ≡ laid before more
 
 -- ---- the line of a reading
 
@@ -38,5 +28,5 @@ line_of r j = given (record { class = j.class; state = j.state; events = r.taken
 unfoldable pub judged_line : Judgement → Reading → Answer Line
 judged_line j r = line_of r (record { class = verdict_says j.verdict; state = j.state })
 
-unfoldable pub line_says : End → Reading → Answer Line
+unfoldable pub line_says : Result Judgement Refusal → Reading → Answer Line
 line_says e r = end_says e giving line_of r

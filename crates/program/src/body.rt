@@ -1,25 +1,22 @@
 // The body of the record of events: its bytes in blocks, both readings of them, and what is printed at the end.
-ghost use Rattle.std.specs.Prelude.{◌≡◌, false, List, [], ◌++◌, ℕ, ◌+◌, ◌%◌, ◌≤◌, length, take};
+ghost use Rattle.std.specs.Prelude.{◌≡◌, List, [], ◌++◌, ℕ, ◌+◌, ◌%◌, ◌≤◌, length, take, IfSome, IsSomeAnd};
 ghost use Rattle.meaning.specs.Answers.{given, refused};
 ghost use Rattle.meaning.specs.Calls.{refusal_says};
-ghost use Rattle.meaning.specs.RuleFile.{header_length, rule_of, check_rule};
+ghost use Rattle.meaning.specs.RuleFile.{rule_of, check_rule};
 ghost use Rattle.meaning.specs.FullReading.{fresh_reading};
 ghost use Rattle.meaning.specs.CheckProgram.{front_length, front_check, events_in, line_bytes, rule_word, printed};
 ghost use Rattle.program.specs.Passes.{pass_says, fed_on};
-ghost use Rattle.program.specs.Texts.{text_says, InRoom};
 ghost use Rattle.program.specs.Bodies.{program_book, zero_book, block_length, Carried, Took, HasRead, both_lines};
 
-use crate::lines::{line, refusal};
-use crate::passes;
-use crate::passes::{Pass, end_of, go_on};
-use crate::text::{Text, empty, word};
-use meaning::{Reading, Refusal};
+use crate::passes::Pass;
+use crate::text::Text;
+use meaning::{Reading, Reason, Refusal};
 use rule::tables::HEADER;
 
 // The bytes of a block, the events that they hold, and the words of the longest book.
 pub const BLOCK: usize = 65536;
 
-const EVENTS: usize = 32768;
+const EVENTS: usize = BLOCK / 2;
 
 const WORDS: usize = 65;
 
@@ -27,7 +24,15 @@ const WORDS: usize = 65;
 #[derive(Clone, Copy)]
 pub struct Start {
     pub first: Reading,
-    pub book: [u64; 65],
+    pub book: [u64; WORDS],
+}
+
+// What is read: the rule's file, the rule's own book, and how many bytes the record of events has.
+#[derive(Clone, Copy)]
+pub struct Document<'a> {
+    pub file: &'a [u8],
+    pub book: &'a [u64],
+    pub size: u32,
 }
 
 // Both readings.
@@ -37,17 +42,16 @@ pub struct Both {
     pub full: Pass,
 }
 
-// The body so far: both readings, how many bytes were taken, and whether bytes came after the record.
+// The body so far: both readings, and how many bytes were taken, or none once bytes came after the record.
 #[derive(Clone, Copy)]
 pub struct Body {
     pub both: Both,
-    pub taken: usize,
-    pub after: bool,
+    pub taken: Option<usize>,
 }
 
 // A book of zeros.
 #[tactic(auto, unfolding(crate::specs::Bodies::zero_book))]
-fn zeros() -> [u64; 65]
+fn zeros() -> [u64; WORDS]
     ensures zeros { result ≡ zero_book }
     ensures words { length result ≡ 65 }
 {
@@ -70,126 +74,87 @@ pub fn open(file: &[u8]) -> Start
 pub fn carry(front: &[u8], block: &mut [u8]) -> usize
     ensures { Carried front.now block.old result block.new }
 {
-    let mut i = 0;
-    while i < front.len() {
-        if block.len() <= i {
-            return i;
+    let count = front.len().min(block.len());
+    block[..count].copy_from_slice(&front[..count]);
+    count
+}
+
+impl Both {
+    // The events of a block are fed to both readings.
+    fn feed(&mut self, file: &[u8], book: &[u64], block: &[u8])
+        ensures skip_fed { length block.now ≤ block_length → pass_says self.new.skip ≡ fed_on file.now book.now (pass_says self.old.skip) (events_in block.now) }
+        ensures full_fed { length block.now ≤ block_length → pass_says self.new.full ≡ fed_on file.now zero_book (pass_says self.old.full) (events_in block.now) }
+    {
+        let mut events = [0u16; EVENTS];
+        let count = input::decode(block, &mut events);
+        self.skip.go_on(file, book, &events[..count]);
+        self.full.go_on(file, &zeros(), &events[..count]);
+    }
+
+    // The two lines.
+    fn lines(&self, file: &[u8], book: &[u64]) -> Text
+        ensures { result ≡ both_lines file.now book.now (pass_says self.now.skip) (pass_says self.now.full) }
+    {
+        let mut text = Text::empty();
+        text.line(b"skip", self.skip.end_of(file, book), self.skip.reading);
+        text.line(b"full", self.full.end_of(file, &zeros()), self.full.reading);
+        text
+    }
+}
+
+impl Body {
+    // Before the first byte: both readings begin from the same one, and the full one is fed with a book of zeros.
+    pub fn begin(file: &[u8], book: &[u64], first: Reading) -> Body
+        ensures { (size : ℕ) → first ≡ fresh_reading (rule_of file.now) → Took file.now book.now size result [] }
+    {
+        Body {
+            both: Both {
+                skip: Pass::begin(file, book, first),
+                full: Pass::begin(file, &zeros(), first),
+            },
+            taken: Some(0),
         }
-        block[i] = front[i];
-        i += 1;
-    }
-    i
-}
-
-// Before the first byte: both readings begin from the same one, and the full one is fed with a book of zeros.
-pub fn begin(file: &[u8], book: &[u64], first: Reading) -> Body
-    ensures { (size : ℕ) → first ≡ fresh_reading (rule_of file.now) → Took file.now book.now size result [] }
-{
-    let zero = zeros();
-    let skip = passes::begin(file, book, first);
-    let full = passes::begin(file, &zero, first);
-    Body {
-        both: Both { skip, full },
-        taken: 0,
-        after: false,
     }
 }
 
-// The events of a block are fed to both readings.
-fn feed_both(file: &[u8], book: &[u64], both: Both, block: &[u8]) -> Both
-    ensures skip_fed { length block.now ≤ block_length → pass_says result.skip ≡ fed_on file.now book.now (pass_says both.skip) (events_in block.now) }
-    ensures full_fed { length block.now ≤ block_length → pass_says result.full ≡ fed_on file.now zero_book (pass_says both.full) (events_in block.now) }
-{
-    let mut events = [0u16; EVENTS];
-    let n = input::decode(block, &mut events);
-    let zero = zeros();
-    let skip = both.skip;
-    let full = both.full;
-    let skipped = go_on(file, book, skip, &events[..n]);
-    let read = go_on(file, &zero, full, &events[..n]);
-    Both {
-        skip: skipped,
-        full: read,
+impl Document<'_> {
+    // A block of the body, whose events are fed, or which goes on after the record. No event straddles two blocks as long as every
+    // block before has an even count of bytes.
+    pub fn take(self, body: &mut Body, block: &[u8])
+        ensures took_more { (bytes : List ℕ) → Took self.entry.file.now self.entry.book.now self.entry.size body.old bytes → length bytes % 2 ≡ 0 → length block.now ≤ block_length
+            → Took self.entry.file.now self.entry.book.now self.entry.size body.new (bytes ++ block.now) }
+        ensures within_record { IfSome body.new.taken (λ after. IsSomeAnd body.old.taken (λ before. after ≡ before + length block.now) × (after ≤ self.entry.size)) }
+    {
+        body.taken = body
+            .taken
+            .and_then(|before| before.checked_add(block.len()))
+            .filter(|after| *after <= self.size as usize);
+        if body.taken.is_some() {
+            body.both.feed(self.file, self.book, block);
+        }
     }
-}
 
-// A block of the body, whose events are fed, or which goes on after the record. No event straddles two blocks as long as every
-// block before has an even count of bytes.
-pub fn take(file: &[u8], book: &[u64], size: u32, body: Body, block: &[u8]) -> Body
-    ensures took_more { (bytes : List ℕ) → Took file.now book.now size body bytes → length bytes % 2 ≡ 0 → length block.now ≤ block_length → Took file.now book.now size result (bytes ++ block.now) }
-    ensures within_record { result.after ≡ false → (result.taken ≡ body.taken + length block.now) × (result.taken ≤ size) }
-{
-    let both = body.both;
-    let taken = body.taken;
-    let count = block.len();
-    let whole = size as usize;
-    if body.after {
-        return body;
-    }
-    if whole < taken {
-        return Body {
-            both,
-            taken,
-            after: true,
-        };
-    }
-    if whole - taken < count {
-        return Body {
-            both,
-            taken,
-            after: true,
-        };
-    }
-    Body {
-        both: feed_both(file, book, both, block),
-        taken: taken + count,
-        after: false,
+    // What is printed where the input ends, or where bytes came after the record.
+    pub fn text(self, body: &Body) -> Text
+        ensures { (input bytes rest : List ℕ) → HasRead self.entry.file.now self.entry.book.now self.entry.size body.now input bytes rest → result ≡ printed input }
+    {
+        let start = self.file.len() + HEADER;
+        let whole = self.size as usize;
+        match body.taken {
+            None => refused_text(Reason::BytesAfter.at(start + whole)),
+            Some(taken) if taken < whole => refused_text(Reason::CutShort.at(start + taken)),
+            Some(_) => body.both.lines(self.file, self.book),
+        }
     }
 }
 
 // The line of a bad rule or record.
 pub fn refused_text(r: Refusal) -> Text
-    ensures in_room { InRoom result }
-    ensures says_line { text_says result ≡ line_bytes rule_word (refused r.number r.place) }
-    ensures says_printed { (input : List ℕ) → front_check (take front_length input) ≡ refusal_says r → text_says result ≡ printed input }
+    ensures says_line { result ≡ line_bytes rule_word (refused r.number r.place) }
+    ensures says_printed { (input : List ℕ) → front_check (take front_length input) ≡ refusal_says r → result ≡ printed input }
 {
-    let start = empty();
-    let named = word(start, b"rule");
-    refusal(named, r)
-}
-
-// The two lines.
-fn both_lines(file: &[u8], book: &[u64], both: Both) -> Text
-    ensures in_room { InRoom result }
-    ensures says_lines { text_says result ≡ both_lines file.now book.now (pass_says both.skip) (pass_says both.full) }
-{
-    let zero = zeros();
-    let skip = both.skip;
-    let full = both.full;
-    let start = empty();
-    let first = line(start, b"skip", end_of(file, book, skip), skip.reading);
-    line(first, b"full", end_of(file, &zero, full), full.reading)
-}
-
-// What is printed where the input ends, or where bytes came after the record.
-pub fn text(file: &[u8], book: &[u64], size: u32, body: Body) -> Text
-    ensures in_room { InRoom result }
-    ensures says_printed { (input bytes rest : List ℕ) → HasRead file.now book.now size body input bytes rest → text_says result ≡ printed input }
-{
-    let start = file.len() + HEADER;
-    let taken = body.taken;
-    let whole = size as usize;
-    if body.after {
-        return refused_text(Refusal {
-            number: 5,
-            place: start + whole,
-        });
-    }
-    if taken < whole {
-        return refused_text(Refusal {
-            number: 1,
-            place: start + taken,
-        });
-    }
-    both_lines(file, book, body.both)
+    let mut text = Text::empty();
+    text.word(b"rule");
+    text.refusal(r);
+    text
 }

@@ -5,87 +5,51 @@ ghost use Rattle.meaning.specs.Calls.{end_says, feed_call, finish_fed, largest_c
 ghost use Rattle.meaning.specs.CheckProgram.{program_levels};
 ghost use Rattle.program.specs.Passes.{pass_says, fed_on};
 
-use meaning::{End, Feeding, Level, Reading};
+use meaning::{Judgement, Level, Reading, Refusal};
 
-// The largest ceiling.
-const CEILING: u32 = 0xffff_ffff;
+// The largest ceiling, and the levels of a pass.
+const CEILING: u32 = u32::MAX;
+
+const LEVELS: usize = 1024;
 
 // A reading so far: once an event is refused, no more is taken.
 #[derive(Clone, Copy)]
 pub struct Pass {
     pub reading: Reading,
-    pub ended: Feeding,
-    pub levels: [Level; 1024],
+    pub ended: Result<(), Refusal>,
+    pub levels: [Level; LEVELS],
 }
 
-// Levels that hold nothing.
-#[tactic(auto, unfolding(meaning::specs::FullReading::blank))]
-fn no_levels() -> [Level; 1024]
-    ensures { result ≡ replicate program_levels blank }
-{
-    let none = Level {
-        above: 0,
-        opened: 0,
-    };
-    [none; 1024]
-}
-
-// Events fed from a reading on.
-#[tactic(auto, unfolding(crate::specs::Passes::pass_says))]
-fn take_events(
-    file: &[u8],
-    book: &[u64],
-    reading: Reading,
-    levels: [Level; 1024],
-    events: &[u16],
-) -> Pass
-    ensures { pass_says result ≡ feed_call file.now book.now largest_ceiling reading levels events.now }
-{
-    let after = reading::feed_array(file, book, CEILING, reading, levels, events);
-    let fed = after.fed;
-    let next = fed.reading;
-    let ended = fed.ended;
-    let left = after.levels;
-    Pass {
-        reading: next,
-        ended,
-        levels: left,
+impl Pass {
+    // Before the first event: a feed of none, from the reading that opening gave.
+    pub fn begin(file: &[u8], book: &[u64], first: Reading) -> Pass
+        ensures { pass_says result ≡ feed_call file.now book.now largest_ceiling first (replicate program_levels blank) [] }
+    {
+        let mut pass = Pass {
+            reading: first,
+            ended: Ok(()),
+            levels: [Level::default(); LEVELS],
+        };
+        pass.go_on(file, book, &[]);
+        pass
     }
-}
 
-// More events.
-pub fn go_on(file: &[u8], book: &[u64], pass: Pass, events: &[u16]) -> Pass
-    ensures { pass_says result ≡ fed_on file.now book.now (pass_says pass) events.now }
-{
-    let ended = pass.ended;
-    let levels = pass.levels;
-    match ended {
-        Feeding::Refused(_) => pass,
-        Feeding::AllTaken => take_events(file, book, pass.reading, levels, events),
+    // More events.
+    pub fn go_on(&mut self, file: &[u8], book: &[u64], events: &[u16])
+        ensures { pass_says self.new ≡ fed_on file.now book.now (pass_says self.old) events.now }
+    {
+        if self.ended.is_ok() {
+            let fed = reading::feed(file, book, CEILING, self.reading, &mut self.levels, events);
+            self.reading = fed.reading;
+            self.ended = fed.ended;
+        }
     }
-}
 
-// Before the first event: a feed of none, from the reading that opening gave.
-pub fn begin(file: &[u8], book: &[u64], first: Reading) -> Pass
-    ensures { pass_says result ≡ feed_call file.now book.now largest_ceiling first (replicate program_levels blank) [] }
-{
-    let none = [0u16; 1];
-    let fresh = Pass {
-        reading: first,
-        ended: Feeding::AllTaken,
-        levels: no_levels(),
-    };
-    go_on(file, book, fresh, &none[..0])
-}
-
-// After the last event.
-pub fn end_of(file: &[u8], book: &[u64], pass: Pass) -> End
-    ensures { end_says result ≡ finish_fed file.now book.now (pass_says pass) }
-{
-    let ended = pass.ended;
-    let levels = pass.levels;
-    match ended {
-        Feeding::Refused(refusal) => End::Refused(refusal),
-        Feeding::AllTaken => reading::finish_array(file, book, pass.reading, levels),
+    // After the last event.
+    pub fn end_of(&self, file: &[u8], book: &[u64]) -> Result<Judgement, Refusal>
+        ensures { end_says result ≡ finish_fed file.now book.now (pass_says self.now) }
+    {
+        self.ended?;
+        reading::finish(file, book, self.reading, &self.levels)
     }
 }

@@ -1,64 +1,73 @@
 // Bytes to print, laid one after the other. The room is more than both lines take.
-ghost use Rattle.std.specs.Prelude.{◌≡◌, [], ◌∷◌};
+ghost use Rattle.std.specs.Prelude.{◌≡◌, ◌≤◌, [], ◌∷◌, length};
 ghost use Rattle.meaning.specs.CheckProgram.{decimal};
-ghost use Rattle.program.specs.Texts.{text_says, InRoom, Lays};
+ghost use Rattle.program.specs.Texts.{Lays};
+
+use itoa::Buffer;
+use std::marker::Model;
 
 // The bytes that a text has room for.
-pub const ROOM: usize = 192;
+const ROOM: usize = 192;
 
 // The bytes so far are the first of the room.
-#[derive(Clone, Copy)]
+#[derive(Drop)]
 pub struct Text {
-    pub bytes: [u8; 192],
-    pub count: usize,
+    bytes: [u8; ROOM],
+    count: usize,
 }
 
-// No byte yet.
-#[tactic(auto, unfolding(crate::specs::Texts::text_says))]
-pub(crate) fn empty() -> Text
-    ensures says_nothing { text_says result ≡ [] }
-    ensures in_room { InRoom result }
-{
-    Text {
-        bytes: [0; 192],
-        count: 0,
-    }
+// Clauses see the bytes so far.
+impl Model for Text {
+    ghost use Rattle.std.specs.Prelude.{ℕ, ◌≤◌, List, take};
+    ghost use Rattle.program.specs.Texts.{text_room};
+
+    ghost Value = { List ℕ };
+
+    ghost view = { λ t. take t.count t.bytes };
+
+    ghost invariant = { λ t. t.count ≤ text_room };
 }
 
-// One byte more, where there is room.
-pub(crate) fn put(text: Text, byte: u8) -> Text
-    ensures { Lays text (byte ∷ []) result }
-{
-    let at = text.count;
-    if ROOM <= at {
-        return text;
+impl Text {
+    // No byte yet.
+    pub(crate) fn empty() -> Text
+        ensures { result ≡ [] }
+    {
+        Text {
+            bytes: [0; ROOM],
+            count: 0,
+        }
     }
-    let mut bytes = text.bytes;
-    bytes[at] = byte;
-    Text {
-        bytes,
-        count: at + 1,
-    }
-}
 
-// More bytes.
-pub(crate) fn word(text: Text, more: &[u8]) -> Text
-    ensures { Lays text more.now result }
-{
-    let mut after = text;
-    let mut i = 0;
-    while i < more.len() {
-        after = put(after, more[i]);
-        i += 1;
+    // The bytes so far.
+    pub fn as_bytes(&self) -> &[u8]
+        ensures says { result.now ≡ self.now }
+        ensures in_room { length result.now ≤ 192 }
+    {
+        &self.bytes[..self.count]
     }
-    after
-}
 
-// A number in decimal digits.
-pub(crate) fn number(text: Text, n: u64) -> Text
-    ensures { Lays text (decimal n) result }
-{
-    let mut digits = [0u8; 20];
-    let count = io::decimal(n, &mut digits);
-    word(text, &digits[..count])
+    // More bytes, as many as there is room for.
+    pub(crate) fn word(&mut self, more: &[u8])
+        ensures { Lays self.old more.now self.new }
+    {
+        let count = (ROOM - self.count).min(more.len());
+        let end = self.count + count;
+        self.bytes[self.count..end].copy_from_slice(&more[..count]);
+        self.count = end;
+    }
+
+    // One byte more.
+    pub(crate) fn put(&mut self, byte: u8)
+        ensures { Lays self.old (byte ∷ []) self.new }
+    {
+        self.word(&[byte]);
+    }
+
+    // A number in decimal digits.
+    pub(crate) fn number(&mut self, n: u64)
+        ensures { Lays self.old (decimal n) self.new }
+    {
+        self.word(Buffer::new().format(n).as_bytes());
+    }
 }

@@ -7,7 +7,7 @@ use Prim.Native.Nat.{ℕ, ◌+◌, ◌≤◌, ◌<◌}
 use native.Mathlib.Omega.{arith}
 use lib.ListN.{length}
 use Rattle.std.specs.Prelude.{Err}
-use Rattle.meaning.specs.Answers.{given, refused, ◌giving◌}
+use Rattle.meaning.specs.Answers.{given, refused}
 use Rattle.meaning.specs.FullReading.{Went, feed_by}
 use Rattle.meaning.specs.RuleFile.{check_rule, rule_of}
 use Rattle.meaning.specs.Calls.{Stored, says, refusal_says, open_call, opened_book, store_step, top_of, not_reading, reading_check, feed_call, end_of, finish_call}

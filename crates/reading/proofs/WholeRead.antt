@@ -1,12 +1,11 @@
 -- The whole-document call: the reading that opening gave and the book that it wrote pass every check of feed and finish, so
 -- feeding the events and taking the end of what was fed is what those calls answer in turn.
-use mathlib.Core.Path.{◌≡◌, refl, sym, ap, ◌∙◌}
+use mathlib.Core.Path.{◌≡◌, refl, ◌∙◌}
 use mathlib.Core.List.{List}
 use Prim.Native.Nat.{ℕ, ◌<◌}
 use native.Mathlib.Omega.{arith}
-use lib.ListN.{length}
 use Rattle.std.specs.Prelude.{Result, Ok, Err}
-use Rattle.meaning.specs.Answers.{Answer, given, refused, ◌giving◌}
+use Rattle.meaning.specs.Answers.{given, ◌giving◌}
 use Rattle.meaning.specs.RuleFile.{rule_of}
 use Rattle.meaning.specs.FullReading.{Went, feed_by}
 use Rattle.meaning.specs.Calls.{Stored, says, refusal_says, end_says, open_call, opened_book, store_step, top_of, end_of, finish_fed, largest_ceiling, read_with, whole_document}
@@ -16,7 +15,6 @@ use Rattle.meaning.specs.declared.Judgement.{Judgement}
 use Rattle.meaning.specs.declared.Level.{Level}
 use Rattle.meaning.specs.declared.Refusal.{Refusal}
 use Rattle.meaning.proofs.rulefile.Accepted.{accepted-is-rule}
-use Rattle.meaning.proofs.laws.Answered.{giving-passes, giving-stops}
 use Rattle.meaning.proofs.stores.KeptReading.{reading-is, feeding-keeps-reading}
 use Rattle.meaning.proofs.skipbook.BookMade.{after-refused}
 use Rattle.meaning.proofs.stores.Opens.{open-says, opened-long, fresh-reading}
@@ -89,8 +87,8 @@ module _ (file book : List ℕ) (store : List Level) (events : List ℕ) where
         document-state =
             let feeds = opened-feeds in
             let still = rw gone.comes at
-                (feeding-keeps-reading (accepted-is-rule file h.accepted) (opened_book file book) largest_ceiling (over o.reading store)
-                events feeds.is_reading)
+            (feeding-keeps-reading (accepted-is-rule file h.accepted) (opened_book file book) largest_ceiling (over o.reading store)
+            events feeds.is_reading)
             in
             (turn-ready (record { ruled = h; book_long = feeds.book_long; is_reading = still })).states.state_in
 

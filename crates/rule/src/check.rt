@@ -59,7 +59,8 @@ pub fn numbers_check(rule: Rule) -> Result<(), Refusal>
     Ok(())
 }
 
-// One record that stands at a place, of a kind and with a body of so many bytes.
+// One record that stands at a place, of a kind and with a body of so many bytes. The kind is no `Kind`, since an answer is promised
+// for any number.
 pub fn record_check(file: &[u8], place: usize, kind: u16, size: usize) -> Result<(), Refusal>
     requires { place + size < 2 ^ 60 }
     ensures { says result ≡ record_check file.now place kind size }

@@ -1,5 +1,6 @@
 // The tables of a rule, read in the bytes of its file: one read at a computed offset, and no copy. What a look finds names its
-// table where there is no move, so that whoever looks need not know in which table it was.
+// table where there is no move, so that whoever looks need not know in which table it was. File and rule are no `CheckedRule`, since
+// each look promises an answer for any bytes and any numbers.
 ghost use Rattle.std.specs.Prelude.{◌≡◌, ◌+◌, ◌*◌, ◌<◌, ◌^◌, get_or};
 ghost use Rattle.meaning.specs.Calls.{number_of};
 ghost use Rattle.meaning.specs.FullReading.{no_move_number};

@@ -1,5 +1,5 @@
 // The writer: the numbers and tables of a rule, laid into a lent output as the bytes of its file.
-ghost use Rattle.std.specs.Prelude.{◌≡◌, ◌+◌, ◌≤◌, ◌%◌, length, ◌++◌};
+ghost use Rattle.std.specs.Prelude.{◌≡◌, ◌+◌, ◌≤◌, length, ◌++◌};
 ghost use Rattle.meaning.specs.Calls.{says};
 ghost use Rattle.meaning.specs.RuleFile.{numbers_body, record_bytes, write_check, output_after};
 ghost use Rattle.rule.specs.Checks.{kind_code, bare_rule, parts_rule, given_check};
@@ -22,28 +22,19 @@ pub struct Parts<'a> {
     pub classes: &'a [u8],
 }
 
-// How many numbers a byte can stand for.
-const BYTE: usize = 0x100;
-
-// The lowest byte of a number.
-fn low(x: usize) -> u8
-    ensures { result ≡ x % 256 }
-{
-    (x % BYTE) as u8
-}
-
 // The header of a record, laid down at a place.
 fn header(output: &mut [u8], place: usize, kind: Kind, size: usize)
     requires { place + 6 ≤ length output.old }
     ensures { output.new ≡ laid place (header_bytes (kind_code kind) size) output.old }
 {
-    let [first, second] = kind.code().to_le_bytes();
-    output[place] = low(size);
-    output[place + 1] = low(size >> 8);
-    output[place + 2] = low(size >> 16);
-    output[place + 3] = low(size >> 24);
-    output[place + 4] = first;
-    output[place + 5] = second;
+    let [low, second, third, fourth, ..] = size.to_le_bytes();
+    let [kind_low, kind_high] = kind.code().to_le_bytes();
+    output[place] = low;
+    output[place + 1] = second;
+    output[place + 2] = third;
+    output[place + 3] = fourth;
+    output[place + 4] = kind_low;
+    output[place + 5] = kind_high;
 }
 
 // A record with its body: the header is laid down, and the output after it lent on.

@@ -2,7 +2,7 @@
 -- it can end the level, since the closes before it and it are no more than that depth. So is a run whose lowest depth, from the
 -- skip depth, is not below zero; runs that were followed side by side are joined, each moved to where the one before it ended.
 use Rattle.std.proofs.Common.{if◌then◌else◌}
-use mathlib.Core.Path.{◌≡◌, refl}
+use mathlib.Core.Path.{◌≡◌, refl, ◌∙◌}
 use mathlib.Core.Bool.{Bool, true, false}
 use mathlib.Core.List.{List, [], ◌∷◌, ◌++◌}
 use Prim.Native.Nat.{ℕ, zero, suc, max, ◌+◌, ◌-◌, ◌≤◌, ◌<◌}
@@ -267,13 +267,16 @@ module _ (known : ℕ) where
   }
 
   -- one event, unless its close ends the level
-  pub passed_one : (skip e : ℕ) (after : Option ℕ) → e < known
-      → SomeIff after (closings e ≤ skip + openings e) (skip + openings e - closings e) → IfSome after (λ skip'. AllPassed known skip (e ∷ []) skip')
-  passed_one skip e None below h = tt
-  passed_one skip e (Some skip') below h = rw h.1 (record {
-    all_known = All-cons (λ e. e < known) e [] below (All-nil (λ e. e < known));
-    passing = pass_one {skip = skip} {e = e} (omega (arith, one-kind e, h.0)) pass_none;
-  })
+  pub passed_one : (skip e opened closed : ℕ) (after : Option ℕ) → e < known → opened ≡ from_bool (e =? 0) → closed ≡ from_bool (e =? 1)
+      → SomeIff after (closed ≤ skip + opened) (skip + opened - closed) → IfSome after (λ skip'. AllPassed known skip (e ∷ []) skip')
+  passed_one skip e opened closed None below opens closes h = tt
+  passed_one skip e opened closed (Some skip') below opens closes h =
+      let o : opened ≡ openings e = opens ∙ opens-are e in
+      let c : closed ≡ closings e = closes ∙ closes-are e in
+      rw (h.1, o, c) (record {
+        all_known = All-cons (λ e. e < known) e [] below (All-nil (λ e. e < known));
+        passing = pass_one {skip = skip} {e = e} (omega (arith, one-kind e, h.0)) pass_none;
+      })
 
   pub passed-more : (events : List ℕ) (a b c i : ℕ) → i < length events → AllPassed known a (take i events) b
       → AllPassed known b (get_or events i 0 ∷ []) c → AllPassed known a (take (i + 1) events) c

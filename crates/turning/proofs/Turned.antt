@@ -1,6 +1,8 @@
 -- Laws of one event, which the proofs of the functions cite: what a look in a table gives, which event a number is, and that
 -- the numbers the code holds are those of the rule.
 use Rattle.std.proofs.Common.{if◌then◌else◌, Result, Ok, Err}
+use Rattle.std.specs.Result.{IsErrAnd}
+use Rattle.std.proofs.lemmas.Result.{err_from_is_err_and}
 use mathlib.Core.Path.{◌≡◌, refl, ap, ◌∙◌}
 use mathlib.Core.Bool.{Bool, true, false, ◌||◌}
 use mathlib.Core.List.{List}
@@ -8,7 +10,7 @@ use Prim.Native.Nat.{ℕ, zero, suc, ◌+◌, ◌-◌, ◌≤◌, ◌<◌}
 use native.Mathlib.Omega.{arith}
 use borrow.Author.Tests.{ne_eqb, leb-true, lt-leb, ltb-true}
 use lib.ListN.{length}
-use Rattle.meaning.specs.Answers.{Answer, given, refused, refuse◌at◌when◌otherwise◌, ◌giving◌, ◌≤?◌, ◌=?◌}
+use Rattle.meaning.specs.Answers.{Answer, given, refuse◌at◌when◌otherwise◌, ◌giving◌, ◌≤?◌, ◌=?◌}
 use Rattle.meaning.specs.RuleFile.{none, most_states, most_letters, class_count, as_move, class_of, is_class, is_states, is_letters, rule_of, to, no_move, tree_start_move}
 use Rattle.meaning.specs.FullReading.{opens, closes, letter, event_of, most_events, known_event, look, looked, new_level, full_turn, Turn, stays, stores, ends}
 use Rattle.meaning.specs.SkipBook.{in_still}
@@ -24,10 +26,10 @@ use Rattle.rule.specs.Says.{numbers_of, RuleOf}
 use Rattle.rule.specs.declared.Rule.{Rule}
 use Rattle.rule.specs.declared.tables.Table.{Table}
 use Rattle.rule.specs.declared.tables.Table.TheVariants.{LetterMoves, TreeStart, TreeMoves}
-use Rattle.meaning.specs.Calls.{number_of}
 use Rattle.meaning.specs.declared.reason.Reason.{Reason}
+use Rattle.turning.specs.declared.Turn as code
 use Rattle.turning.specs.Readings.{StatesIn, BookServes}
-use Rattle.turning.specs.Turns.{look_says, found_answer, look_answer}
+use Rattle.turning.specs.Turns.{turn_says, look_says, found_answer, look_answer}
 
 -- ---- a look at a byte of a table
 
@@ -57,19 +59,14 @@ module _ (ceiling : ℕ) (r : Reading) (table : Table) (byte : ℕ) (next : ℕ 
     unfolding look_says ◌giving◌
     look-gives e = rw e at (comes answer read made)
 
-    pub look-refuses : {reason : Reason} → answer ≡ Err reason → refused (number_of reason) r.taken ≡ look_at
-    unfolding look_says ◌giving◌
-    look-refuses e = rw e at (comes answer read made)
+    pub look-refuses : {reason : Reason} → answer ≡ Err reason → (turn : Result code.Turn Reason) → IsErrAnd turn (λ e. e ≡ reason)
+        → turn_says r turn ≡ look_at
+    unfolding look_says ◌giving◌ turn_says
+    look-refuses e turn is =
+        let p = err_from_is_err_and turn is in
+        rw (p.1, p.2) (rw e at (comes answer read made))
 
 -- ---- which event a number is
-
-pub opens-is : {e : ℕ} → e ≡ 0 → event_of e ≡ opens
-unfolding event_of
-opens-is h = rw h
-
-pub closes-is : {e : ℕ} → e ≡ 1 → event_of e ≡ closes
-unfolding event_of
-closes-is h = rw h
 
 pub letter-is : (e : ℕ) → 2 ≤ e → event_of e ≡ letter (e - 2)
 unfolding event_of

@@ -25,11 +25,6 @@ rest R book ceiling store events g =
     rest_of g.ended (over g.reading store)
     (feed_by (store_step R book ceiling) (over g.reading store) (drop g.next events))
 
--- where feeding begins after a check: before the first event, or at the check's refusal with none left
-unfoldable pub start_of : {A : Type 0} → Result A Refusal → Reading → ℕ → Going
-start_of (Ok a) r count = record { reading = r; next = 0; ended = Ok tt }
-start_of (Err f) r count = record { reading = r; next = count; ended = Err f }
-
 -- the store with the record that a turn stores, if it stores one
 unfoldable pub stored : Option Entry → List Level → List Level
 stored None store = store

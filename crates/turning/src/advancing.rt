@@ -59,13 +59,8 @@ impl<'a> Standing<'a> {
             next,
         );
         if passed.next < events.len() {
-            let standing = Standing {
-                rule: self.rule,
-                room: self.room,
-                ceiling: self.ceiling,
-                reading: passed.reading,
-                top: self.top,
-            };
+            let mut standing = *self;
+            standing.reading = passed.reading;
             return standing.take_event(settled, events, passed.next);
         }
         Advance::storing_none(passed.reading, passed.next)

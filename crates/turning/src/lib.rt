@@ -79,7 +79,7 @@ pub struct Advance {
 
 impl Advance {
     // Feeding goes on at the event given, and no record is stored.
-    pub fn storing_none(reading: Reading, next: usize) -> Self
+    fn storing_none(reading: Reading, next: usize) -> Self
         ensures { result ≡ record { going = record { reading = reading; next = next; ended = Ok tt }; stores = None } }
     {
         Advance {

@@ -94,7 +94,7 @@ impl Depths {
     }
 
     // The depths of a block, which is begun at 256: no close of it then falls below zero. Its four parts, each begun at 64, are
-    // followed side by side, since none has to wait for another.
+    // followed side by side, since none has to wait for another; by one index, which is plainer than four iterators in one.
     fn of(block: &[u16]) -> Depths
         requires { length block.now ≡ 256 }
         ensures depths { DepthsOf block.now result }
@@ -134,80 +134,98 @@ fn after_event(known: u16, skip: u32, event: u16) -> Option<u32>
     opened.checked_sub(u32::from(event == CLOSE))
 }
 
-// Events one by one, up to the close that ends the level or an event that is unknown.
-fn pass_events(known: u16, skip: u32, events: &[u16]) -> Passed
-    requires { skip + length events.now ≤ most_events }
-    ensures { PassedIn known skip events.now result }
-{
-    let mut last = skip;
-    for (count, &event) in events.iter().enumerate() {
-        let Some(after) = after_event(known, last, event) else {
-            return Passed { count, skip: last };
-        };
-        last = after;
-    }
-    Passed {
-        count: events.len(),
-        skip: last,
-    }
+// A run of events on a settled level, the skip depth before it, and how many events are known.
+#[derive(Clone, Copy)]
+struct Run<'a> {
+    known: u16,
+    skip: u32,
+    events: &'a [u16],
+    ghost within_limit: { skip + length events.now ≤ most_events },
 }
 
-// The skip depth after a whole block of known events, where it can be told that no close of it ends the level: its closes are no
-// more than the skip depth, or else its lowest depth, from here, is not below zero.
-fn after_block(known: u16, skip: u32, block: &[u16]) -> Option<u32>
-    requires { skip + length block.now ≤ most_events }
-    ensures { IfSome result (λ after. AllPassed known skip block.now after) }
-{
-    if block.len() != BLOCK {
-        return None;
+impl Run<'_> {
+    // Its events one by one, up to the close that ends the level or an event that is unknown.
+    fn pass_events(&self) -> Passed
+        ensures { PassedIn self.now.known self.now.skip self.now.events.now result }
+    {
+        let mut skip = self.skip;
+        for (count, &event) in self.events.iter().enumerate() {
+            let Some(after) = after_event(self.known, skip, event) else {
+                return Passed { count, skip };
+            };
+            skip = after;
+        }
+        let count = self.events.len();
+        Passed { count, skip }
     }
-    let counts = Counts::of(block);
-    if known <= counts.largest {
-        return None;
-    }
-    if let Some(left) = skip.checked_sub(u32::from(counts.closes)) {
-        return Some(left + u32::from(counts.opens));
-    }
-    let depths = Depths::of(block);
-    let lowest = skip.checked_sub(u32::from(depths.begun - depths.lowest))?;
-    Some(lowest + u32::from(depths.last - depths.lowest))
-}
 
-// A block at once where that can be, and else its events one by one.
-fn pass_block(known: u16, skip: u32, block: &[u16]) -> Passed
-    requires { skip + length block.now ≤ most_events }
-    ensures { PassedIn known skip block.now result }
-{
-    match after_block(known, skip, block) {
-        Some(after) => Passed {
-            count: block.len(),
-            skip: after,
-        },
-        None => pass_events(known, skip, block),
+    // The skip depth after it, where it is a whole block of known events and it can be told that no close of it ends the level:
+    // its closes are no more than the skip depth, or else its lowest depth, from here, is not below zero.
+    fn after_block(&self) -> Option<u32>
+        ensures { IfSome result (λ after. AllPassed self.now.known self.now.skip self.now.events.now after) }
+    {
+        if self.events.len() != BLOCK {
+            return None;
+        }
+        let counts = Counts::of(self.events);
+        if self.known <= counts.largest {
+            return None;
+        }
+        if let Some(left) = self.skip.checked_sub(u32::from(counts.closes)) {
+            return Some(left + u32::from(counts.opens));
+        }
+        let depths = Depths::of(self.events);
+        let lowest = self
+            .skip
+            .checked_sub(u32::from(depths.begun - depths.lowest))?;
+        Some(lowest + u32::from(depths.last - depths.lowest))
     }
-}
 
-// The first events one by one, and then block by block.
-fn pass_run(known: u16, skip: u32, events: &[u16]) -> Passed
-    requires { skip + length events.now ≤ most_events }
-    ensures { PassedIn known skip events.now result }
-{
-    let (first, rest) = events.split_at(FIRST.min(events.len()));
-    let mut passed = pass_events(known, skip, first);
-    if passed.count < first.len() {
-        return passed;
-    }
-    for block in rest.chunks(BLOCK) {
-        let next = pass_block(known, passed.skip, block);
-        passed = Passed {
-            count: passed.count + next.count,
-            skip: next.skip,
-        };
-        if next.count < block.len() {
-            return passed;
+    // A block at once where that can be, and else its events one by one.
+    fn pass_block(&self) -> Passed
+        ensures { PassedIn self.now.known self.now.skip self.now.events.now result }
+    {
+        match self.after_block() {
+            Some(skip) => {
+                let count = self.events.len();
+                Passed { count, skip }
+            }
+            None => self.pass_events(),
         }
     }
-    passed
+
+    // Its first events one by one, and then block by block.
+    fn pass(&self) -> Passed
+        ensures { PassedIn self.now.known self.now.skip self.now.events.now result }
+    {
+        let known = self.known;
+        let (first, rest) = self.events.split_at(FIRST.min(self.events.len()));
+        let begun = Run {
+            known,
+            skip: self.skip,
+            events: first,
+        };
+        let mut passed = begun.pass_events();
+        if passed.count < first.len() {
+            return passed;
+        }
+        for block in rest.chunks(BLOCK) {
+            let going = Run {
+                known,
+                skip: passed.skip,
+                events: block,
+            };
+            let next = going.pass_block();
+            passed = Passed {
+                count: passed.count + next.count,
+                skip: next.skip,
+            };
+            if next.count < block.len() {
+                return passed;
+            }
+        }
+        passed
+    }
 }
 
 // On a settled level events are taken by counting alone, up to the close that ends the level or an event that is refused.
@@ -219,7 +237,12 @@ fn pass_over(letters: u16, reading: Reading, events: &[u16], from: usize) -> Pas
 {
     let left = &events[from..];
     let room = (MOST_EVENTS - reading.taken) as usize;
-    let passed = pass_run(letters + 2, reading.skip, &left[..room.min(left.len())]);
+    let run = Run {
+        known: letters + 2,
+        skip: reading.skip,
+        events: &left[..room.min(left.len())],
+    };
+    let passed = run.pass();
     PassedTo {
         reading: Reading {
             skip: passed.skip,

@@ -45,19 +45,15 @@ struct Taking<'a> {
 }
 
 impl<'a> Taking<'a> {
-    // The reading after an event that was no look.
+    // The reading after an event that was no look, and that left the level as it was.
     #[tactic(auto, unfolding(meaning::specs::Skipping::passed))]
-    fn passed(&self, state: u8, depth: u32, skip: u32) -> Reading
-        ensures { result ≡ skipping.passed self.now.standing.reading state depth skip }
+    fn taken(&self) -> Reading
+        ensures { result ≡ skipping.passed self.now.standing.reading self.now.standing.reading.state self.now.standing.reading.depth self.now.standing.reading.skip }
     {
-        let taken = self.standing.reading.taken + 1;
-        let looks = self.standing.reading.looks;
+        let reading = self.standing.reading;
         Reading {
-            state,
-            depth,
-            skip,
-            taken,
-            looks,
+            taken: reading.taken + 1,
+            ..reading
         }
     }
 
@@ -68,8 +64,10 @@ impl<'a> Taking<'a> {
     {
         let looks = self.standing.reading.looks + 1;
         Reading {
+            state,
+            depth,
             looks,
-            ..self.passed(state, depth, self.standing.reading.skip)
+            ..self.taken()
         }
     }
 
@@ -147,7 +145,11 @@ impl<'a> Taking<'a> {
         let reading = self.standing.reading;
         if settled.is_held() {
             let depth = reading.depth.saturating_sub(1);
-            return Ok(Turn::Ends(self.passed(self.standing.top.above, depth, reading.skip)));
+            return Ok(Turn::Ends(Reading {
+                state: self.standing.top.above,
+                depth,
+                ..self.taken()
+            }));
         }
         self.full_close()
     }
@@ -158,14 +160,16 @@ impl<'a> Taking<'a> {
     {
         let reading = self.standing.reading;
         match event {
-            0 => Ok(Turn::Stays(self.passed(reading.state, reading.depth, reading.skip + 1))),
-            1 if 0 < reading.skip => Ok(Turn::Stays(self.passed(
-                reading.state,
-                reading.depth,
-                reading.skip - 1,
-            ))),
+            0 => Ok(Turn::Stays(Reading {
+                skip: reading.skip + 1,
+                ..self.taken()
+            })),
+            1 if 0 < reading.skip => Ok(Turn::Stays(Reading {
+                skip: reading.skip - 1,
+                ..self.taken()
+            })),
             1 => self.ends_level(settled),
-            _ => Ok(Turn::Stays(self.passed(reading.state, reading.depth, reading.skip))),
+            _ => Ok(Turn::Stays(self.taken())),
         }
     }
 }

@@ -1,5 +1,4 @@
 -- Each step that refuses ends the call with its refusal, and where none does, the end is the definition's.
-use Rattle.std.proofs.Common.{sym, ◌∙◌}
 use Rattle.std.proofs.lemmas.Result.{err_from_is_err_and}
 use Rattle.meaning.proofs.laws.Handed.{was-given, was-refused}
 use Rattle.reading.proofs.Checks.{unchecked-opens, unchecked-stays}
@@ -14,7 +13,7 @@ returns-in_err-rule c =
     let p = err_from_is_err_and c.from_residual.result c.from_residual.ensures.1 in
     rw (p.1, p.2)
     (rw (← unchecked-stays file book _ stopped) at
-      (document-refused file book c.args.levels.now c.args.events.now _ (unchecked-opens file book _ stopped)))
+    (document-refused file book c.args.levels.now c.args.events.now _ (unchecked-opens file book _ stopped)))
 
 pub returns-in_err-first : goal.returns-in_err-first
 returns-in_err-first c =

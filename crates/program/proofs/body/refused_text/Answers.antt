@@ -12,10 +12,8 @@ pub returns-clause-says_line : goal.returns-clause-says_line
 unfolding rule_word line_bytes
 returns-clause-says_line c =
     let r = c.args.r in
-    let laid =
-    lays-whole c.empty-start.ensures.says_nothing c.empty-start.ensures.in_room (lays-then c.word-named.ensures c.refusal.ensures)
-    (omega (arith, line-few rule_word (refused r.number r.place))) in
-    laid.1
+    lays-whole c.empty-text.ensures (lays-then c.word.ensures c.refusal.ensures)
+    (omega (arith, line-few rule_word (refused r.number r.place)))
 
 pub returns-clause-says_printed : goal.returns-clause-says_printed
 unfolding refusal_says

@@ -1,5 +1,5 @@
 -- The state and the store, the skip depth, and the counts: the first condition that holds is the definition's.
-use Rattle.std.proofs.Common.{◌≡◌, sym, ap, ◌∙◌, not, Bool, false, ◌||◌, List, ℕ, ◌-◌, ◌<◌, get_or, arith}
+use Rattle.std.proofs.Common.{◌≡◌, sym, ◌∙◌, not, Bool, false, ◌||◌, List, ℕ, ◌-◌, ◌<◌, get_or, arith}
 use borrow.Author.Tests.{ltb-true, not-false}
 use Rattle.meaning.specs.RuleFile as format
 use Rattle.meaning.specs.RuleFile.{is_state}

@@ -19,5 +19,5 @@ unfolding header_bytes bytes4 bytes2
 returns c =
     let a = c.args in
     six-stores a.output.now a.place _ _ _ _ _ _
-    ∙ rw (c.low.ensures, c.low-2.ensures, c.low-3.ensures, c.low-4.ensures, c.to_le_bytes.ensures, c.code.ensures)
+    ∙ rw (c.to_le_bytes.ensures, c.to_le_bytes-2.ensures, c.code.ensures)
     (laid-sets (header_bytes (kind_code a.kind) a.size) a.output.now a.place (omega arith))

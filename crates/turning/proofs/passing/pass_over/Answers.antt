@@ -11,5 +11,5 @@ returns c = λ book top is.
     let from = c.args.from in
     let left = take_all (length events - from) (drop from events) (omega (arith, length-drop from events)) in
     let long = length-take c.min.result (drop from events) in
-    passes_over c.args.letters book c.args.reading top events from c.min.result c.pass_run-passed.result
-    c.requires.counted.levels_taken c.requires.not_past (omega arith) (rw left at c.pass_run-passed.ensures) is
+    passes_over c.args.letters book c.args.reading top events from c.min.result c.pass-passed.result
+    c.requires.counted.levels_taken c.requires.not_past (omega arith) (rw left at c.pass-passed.ensures) is

@@ -1,6 +1,5 @@
 -- The room, and then a look at the tree start.
 use Rattle.std.proofs.Common.{sym, ◌∙◌, le-leb}
-use Rattle.std.proofs.lemmas.Result.{err_from_is_err_and}
 use Rattle.meaning.specs.Calls.{number_of}
 use Rattle.meaning.specs.FullReading.{full_turn, new_level}
 use Rattle.meaning.proofs.laws.Answered.{refuse-stops}
@@ -14,13 +13,10 @@ unfolding turn_says full_turn number_of
 returns-then-self-reading c = sym (refuse-stops 8 _ _ (le-leb _ _ c.if-self-reading.true))
 
 pub returns-in_err-state : goal.returns-in_err-state
-unfolding turn_says
 returns-in_err-state c =
     let s = c.args.self.now.standing in
-    let p = err_from_is_err_and c.from_residual.result c.from_residual.ensures.1 in
-    rw (p.1, p.2)
-    (look-refuses _ s.reading TreeStart _ _ c.tree_start.ensures c.look_up.ensures c.in_err-state.was
-    ∙ sym (open_turn s.rule.accepted _ _ s.reading s.top c.if-self-reading.false))
+    look-refuses _ s.reading TreeStart _ _ c.tree_start.ensures c.look_up.ensures c.in_err-state.was c.from_residual.result c.from_residual.ensures.1
+    ∙ sym (open_turn s.rule.accepted _ _ s.reading s.top c.if-self-reading.false)
 
 pub returns : goal.returns
 unfolding turn_says turn_of new_level

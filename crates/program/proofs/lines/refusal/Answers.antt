@@ -1,9 +1,0 @@
--- The parts of the line, one after the other.
-use Rattle.meaning.specs.CheckProgram.{refused_word, line_end, line_bytes}
-use Rattle.program.proofs.Laying.{lays-then}
-use Rattle.program.proofs.lines.refusal.Goals as goal
-
-pub returns : goal.returns
-unfolding refused_word line_end line_bytes
-returns c =
-    lays-then c.word-said.ensures (lays-then c.spaced-first.ensures (lays-then c.spaced-second.ensures c.put.ensures))

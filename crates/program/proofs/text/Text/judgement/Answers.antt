@@ -1,0 +1,11 @@
+-- The parts of the line, one after the other.
+use Rattle.meaning.specs.CheckProgram.{line_end, line_bytes}
+use Rattle.program.specs.Texts.{line_of, judged_line}
+use Rattle.program.proofs.Laying.{lays-then}
+use Rattle.program.proofs.text.Text.judgement.Goals as goal
+
+pub returns : goal.returns
+unfolding line_end line_bytes line_of judged_line
+returns c =
+    lays-then c.verdict.ensures
+    (lays-then c.spaced.ensures (lays-then c.spaced-2.ensures (lays-then c.spaced-3.ensures c.put.ensures)))
