@@ -81,9 +81,7 @@ pub fn changes(rule: CheckedRule, upper: u8) -> u64
     ensures { StandsFor result (changing (rule_of rule.entry.file.now) upper) }
 {
     states_with(rule.rule.states, |lower| {
-        changed(
-            rule::tables::tree_move(rule.file, rule.rule, upper, lower),
-            upper,
-        )
+        let found = rule::tables::tree_move(rule.file, rule.rule, upper, lower);
+        changed(found, upper)
     })
 }
