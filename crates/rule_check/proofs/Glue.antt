@@ -8,7 +8,7 @@ use native.Mathlib.Decide.{dec_le}
 use native.Mathlib.Omega.{arith}
 use lib.ListN.{length, take, drop, length-append, take-append-drop}
 use lib.Seq.{take-take, take-append-le, drop-append-le, length-take-le}
-use Rattle.std.proofs.Common.{None, Some, IfSome, Result, Ok, Err, OnErr}
+use Rattle.std.proofs.Common.{None, Some, IfSome, IsSome, IsSomeAnd, Result, Ok, Err, OnErr}
 use Rattle.std.specs.declared.option.Option.{Option}
 use Rattle.std.specs.Io.KnownBytes.{Consumes, IsAtEnd}
 use Rattle.std.proofs.KnownBytes.{Consumes-trans}
@@ -19,7 +19,6 @@ use Rattle.meaning.proofs.rulefile.Accepted.{accepted-rule}
 use Rattle.meaning.proofs.program.Fifth.{found, fifth-file, header-says, front-join, front-more}
 use Rattle.program.specs.declared.body.Body.{Body}
 use Rattle.program.specs.Bodies.{block_length, program_book, Took, HasRead}
-use Rattle.rule_check.specs.declared.blocks.Going.{Going}
 use Rattle.rule_check.specs.BlockRead.{TookMore, left}
 
 -- ---- one block
@@ -31,15 +30,15 @@ filled there count block after h stays =
     ap (λ l. l ++ drop there (take count after)) (sym stays ∙ sym (take-take there count after h))
     ∙ take-append-drop there (take count after)
 
-pub went-block : (file book : List ℕ) (size : ℕ) (before : Body) (there count : ℕ) (block after : List ℕ) (old new : Option (List ℕ)) (r : Going)
+pub went-block : (file book : List ℕ) (size : ℕ) (before : Body) (there count : ℕ) (block after : List ℕ) (old new : Option (List ℕ)) (body : Body) (more : Bool)
     → there ≤ count → count ≤ length after → length after ≡ block_length → take there after ≡ take there block
     → Consumes old new (drop there (take count after))
     → ((bytes : List ℕ) → Took file book size before bytes → length bytes % 2 ≡ 0 → length (take count after) ≤ block_length
-    → Took file book size r.body (bytes ++ take count after))
-    → (r.more ≡ true → count ≡ block_length)
-    → (r.more ≡ false → r.body.after ≡ false → IsAtEnd new)
-    → TookMore file book size before (take there block) old new r
-went-block file book size before there count block after old new r h within room stays gave took full end =
+    → Took file book size body (bytes ++ take count after))
+    → (more ≡ true → count ≡ block_length)
+    → (more ≡ false → IsSome body.taken → IsAtEnd new)
+    → TookMore file book size before (take there block) old new body more
+went-block file book size before there count block after old new body more h within room stays gave took full end =
     let all : take there block ++ drop there (take count after) ≡ take count after = filled there count block after h stays in
     let counted : length (take count after) ≡ count = length-take-le count after within in
     record {
@@ -59,11 +58,12 @@ short-block count most full room within = omega arith
 even_sum : (a b : ℕ) → a % 2 ≡ 0 → b % 2 ≡ 0 → (a + b) % 2 ≡ 0
 even_sum a b h k = omega arith
 
-pub went_on : (file book : List ℕ) (size : ℕ) (before : Body) (there : List ℕ) (start old new : Option (List ℕ)) (first r : Going) → first.more ≡ true
-    → TookMore file book size before there start old first → TookMore file book size first.body [] old new r → TookMore file book size before there start new r
-went_on file book size before there start old new first r more one two =
+pub went_on : (file book : List ℕ) (size : ℕ) (before : Body) (there : List ℕ) (start old new : Option (List ℕ)) (first body : Body) (more : Bool)
+    → TookMore file book size before there start old first true → TookMore file book size first [] old new body more
+    → TookMore file book size before there start new body more
+went_on file book size before there start old new first body more one two =
     let both : (there ++ one.new) ++ two.new ≡ there ++ (one.new ++ two.new) = append_assoc there one.new two.new in
-    let first_even : length (there ++ one.new) % 2 ≡ 0 = one.even more in
+    let first_even : length (there ++ one.new) % 2 ≡ 0 = one.even refl in
     record {
       new = one.new ++ two.new;
       gave = Consumes-trans start old new _ _ one.gave two.gave;
@@ -79,17 +79,20 @@ went_on file book size before there start old new first r more one two =
     }
 
 -- the bytes of the record that are left grow fewer
-pub fewer-left : (more : Bool) (size before taken : ℕ) → (more ≡ true → (before < taken) × (taken ≤ size))
-    → left more size taken < left true size before
+pub fewer-left : (more : Bool) (size part : ℕ) (before taken : Option ℕ) → IfSome taken (λ after. IsSomeAnd before (λ b. after ≡ b + part) × (after ≤ size))
+    → (more ≡ true → (0 < part) × IsSome taken) → left more size taken < left true size before
 unfolding left
-fewer-left true size before taken h = let g = h refl in omega arith
-fewer-left false size before taken h = omega arith
+fewer-left true size part (Some b) (Some t) w h = let more = (h refl).0 in omega arith
+fewer-left true size part None (Some t) w h = absurd w.0
+fewer-left true size part before None w h = let none : ◌≡◌ {A = Bool} false true = (h refl).1 in cc
+fewer-left false size part (Some b) taken w h = omega arith
+fewer-left false size part None taken w h = omega arith
 
 -- from the first byte on
-pub took-all : (file book : List ℕ) (size : ℕ) (before : Body) (there part : List ℕ) (old new : Option (List ℕ)) (r : Going) → there ≡ part
-    → Took file book size before [] → (w : TookMore file book size before there old new r) → Took file book size r.body (part ++ w.new)
-took-all file book size before there part old new r e t w =
-    subst (λ (l : List ℕ). Took file book size r.body (l ++ w.new)) e (w.took [] t refl)
+pub took-all : (file book : List ℕ) (size : ℕ) (before : Body) (there part : List ℕ) (old new : Option (List ℕ)) (body : Body) (more : Bool) → there ≡ part
+    → Took file book size before [] → (w : TookMore file book size before there old new body more) → Took file book size body (part ++ w.new)
+took-all file book size before there part old new body more e t w =
+    subst (λ (l : List ℕ). Took file book size body (l ++ w.new)) e (w.took [] t refl)
 
 -- ---- what a failure leaves
 
@@ -133,14 +136,14 @@ module _ (front : List ℕ) (place size : ℕ) (there : front_check front ≡ gi
   start-in = (header-says front place (found front there).header).0
 
   -- and the bytes before it are an accepted file
-  pub file-accepted : check_rule (take place front) ≡ given (rule_of (take place front))
-  file-accepted =
+  pub file-accepted : (file : List ℕ) → file ≡ take place front → check_rule file ≡ given (rule_of file)
+  file-accepted file file_is =
       let a : check_rule (take place front) ≡ given (rule_of front) = fifth-file front place (found front there).after in
-      a ∙ ap given (sym (accepted-rule (take place front) a))
+      rw file_is (a ∙ ap given (sym (accepted-rule (take place front) a)))
 
   -- the input is the front, what was read after it, and a rest that was not read
   pub has-read : (file book : List ℕ) (body : Body) (new rest : List ℕ) → file ≡ take place front → book ≡ program_book file
-      → Took file book size body (drop start front ++ new) → (body.after ≡ false → rest ≡ [])
+      → Took file book size body (drop start front ++ new) → (IsSome body.taken → rest ≡ [])
       → HasRead file book size body (front ++ (new ++ rest)) (drop start front ++ new) rest
   has-read file book body new rest file_is book_is took all_read =
       let long : length file ≡ place = ap length file_is ∙ length-take-le place front (omega (arith, start-in)) in
@@ -158,11 +161,10 @@ module _ (front : List ℕ) (place size : ℕ) (there : front_check front ≡ gi
       }
 
   -- so it is after the last block, whatever the rest is, and that is nothing where the reader is at its end
-  pub run-read : (book : List ℕ) (begun : Body) (laid : List ℕ) (old new : Option (List ℕ)) (last : Going) → laid ≡ drop start front
-      → book ≡ program_book (take place front) → Took (take place front) book size begun [] → (w : TookMore (take place front) book size begun laid old new last)
-      → last.more ≡ false → (rest : List ℕ) → (IsAtEnd new → rest ≡ [])
-      → HasRead (take place front) book size last.body (front ++ (w.new ++ rest)) (drop start front ++ w.new) rest
-  run-read book begun laid old new last laid_is book_is took w ended rest none =
-      has-read (take place front) book last.body w.new rest refl book_is
-      (took-all (take place front) book size begun laid (drop start front) old new last laid_is took w)
-      (λ e. none (w.at_end ended e))
+  pub run-read : (file book : List ℕ) (begun : Body) (laid : List ℕ) (old new : Option (List ℕ)) (last : Body) → file ≡ take place front
+      → book ≡ program_book file → laid ≡ drop start front → Took file book size begun [] → (w : TookMore file book size begun laid old new last false)
+      → (rest : List ℕ) → (IsAtEnd new → rest ≡ []) → HasRead file book size last (front ++ (w.new ++ rest)) (drop start front ++ w.new) rest
+  run-read file book begun laid old new last file_is book_is laid_is took w rest none =
+      has-read file book last w.new rest file_is book_is
+      (took-all file book size begun laid (drop start front) old new last false laid_is took w)
+      (λ e. none (w.at_end refl e))

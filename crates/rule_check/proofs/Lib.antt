@@ -1,3 +1,4 @@
 -- What the proofs of the check program share.
 pub mod Transfer
 pub mod Glue
+pub mod Made

@@ -1,4 +1,5 @@
 // What went wrong.
+use std::error::Error;
 use std::{fmt, io};
 
 // The input could not be read, or the answer could not be written.
@@ -16,3 +17,5 @@ impl fmt::Display for Failure {
         }
     }
 }
+
+impl Error for Failure {}

@@ -2,6 +2,7 @@
 // What it makes of the bytes is the library `program`; here they are read, and the answer is written.
 #![tactic(auto)]
 
+mod again;
 mod blocks;
 mod failure;
 mod output;
@@ -10,11 +11,10 @@ mod source;
 ghost use Rattle.std.specs.Prelude.{◌≡◌, List, ℕ, IfOk, OnOk, OnErr, IfErr, IfSome, IsOkAnd};
 ghost use Rattle.std.specs.Io.KnownBytes.{Consumes, Keeps, Appends};
 ghost use Rattle.meaning.specs.CheckProgram.{printed};
-ghost use Rattle.program.specs.Texts.{text_says, InRoom};
 ghost use Rattle.rule_check.specs.Failing.{LeftBy};
 
 use failure::Failure;
-use input::Front;
+use program::body;
 use program::text::Text;
 use std::io;
 use std::io::{Read, Write};
@@ -26,34 +26,27 @@ const FRONT: usize = 20579;
 // Reads an input, as far as it decides the answer, and makes the answer: what is printed for the bytes that were read, and so for
 // all that the reader has, where that is known.
 fn answer<R: Read>(reader: &mut R) -> io::Result<Text>
-    ensures in_room { IfOk result InRoom }
-    ensures as_read { IfOk result (λ text. (input : List ℕ) × Consumes (R.remaining reader.old) (R.remaining reader.new) input × (text_says text ≡ printed input)) }
-    ensures as_all { IfOk result (λ text. IfSome (R.remaining reader.old) (λ input. text_says text ≡ printed input)) }
+    ensures as_read { IfOk result (λ text. (input : List ℕ) × Consumes (R.remaining reader.old) (R.remaining reader.new) input × (text ≡ printed input)) }
+    ensures as_all { IfOk result (λ text. IfSome (R.remaining reader.old) (λ input. text ≡ printed input)) }
     ensures lost { OnErr result ((bytes : List ℕ) × Consumes (R.remaining reader.old) (R.remaining reader.new) bytes) }
 {
     let mut front = [0u8; FRONT];
     let count = source::fill(reader, &mut front, 0)?;
     match input::events_at(&front[..count]) {
-        Front::Refused(refusal) => Ok(program::body::refused_text(refusal)),
-        Front::Events(at) => blocks::run(reader, &front[..count], at),
+        Ok(at) => blocks::run(reader, &front[..count], at),
+        Err(refusal) => Ok(body::refused_text(refusal)),
     }
 }
 
 // Writes an answer. Where a read failed there is none, and nothing is written.
 fn tell<W: Write>(writer: &mut W, answer: io::Result<Text>) -> Result<(), Failure>
-    requires in_room { IfOk answer InRoom }
-    requires as_printed { IfOk answer (λ text. (input : List ℕ) × (text_says text ≡ printed input)) }
-    ensures told { OnOk result (IsOkAnd answer (λ text. Appends (W.contents writer.old) (W.contents writer.new) (text_says text))) }
+    requires as_printed { IfOk answer (λ text. (input : List ℕ) × (text ≡ printed input)) }
+    ensures told { OnOk result (IsOkAnd answer (Appends (W.contents writer.old) (W.contents writer.new))) }
     ensures silent { OnErr answer (Keeps (W.contents writer.old) (W.contents writer.new)) }
-    ensures left { IfErr result (LeftBy (λ bytes. IsOkAnd answer (λ text. text_says text ≡ bytes)) (W.contents writer.old) (W.contents writer.new)) }
+    ensures left { IfErr result (LeftBy (λ bytes. IsOkAnd answer (λ text. text ≡ bytes)) (W.contents writer.old) (W.contents writer.new)) }
 {
-    match answer {
-        Err(error) => Err(Failure::Input(error)),
-        Ok(text) => match output::write(writer, text) {
-            Err(error) => Err(Failure::Output(error)),
-            Ok(()) => Ok(()),
-        },
-    }
+    let text = answer.map_err(Failure::Input)?;
+    output::write_all(writer, text.as_bytes()).map_err(Failure::Output)
 }
 
 // The program on any reader and writer: where the bytes that the reader has are known, those that are printed for them are written.

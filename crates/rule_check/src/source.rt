@@ -1,45 +1,19 @@
 // Standard input, read into a buffer until that is full.
-ghost use Rattle.std.specs.Prelude.{◌≡◌, ◌≢◌, ◌+◌, ◌<◌, ◌≤◌, List, ℕ, length, take, drop, IfOk, OnErr};
-ghost use Rattle.std.specs.Io.KnownBytes.{Keeps, Consumes, IsAtEnd};
+ghost use Rattle.std.specs.Prelude.{◌≡◌, ◌<◌, ◌≤◌, List, ℕ, length, take, drop, IfOk, OnErr};
+ghost use Rattle.std.specs.Io.{ReadsAtMost};
+ghost use Rattle.std.specs.Io.KnownBytes.{Consumes, IsAtEnd, ReadConsumes};
 
+use crate::again::again;
 use std::io;
-use std::io::{ErrorKind, Read};
+use std::io::Read;
 
-// How often a read that a signal interrupted is made again. A proved loop has to end; no run uses this up.
-const TRIES: u32 = 0xffff_ffff;
-
-// One read into a buffer from a place on. The bytes before it stay.
-fn read_at<R: Read>(reader: &mut R, buffer: &mut [u8], at: usize) -> io::Result<usize>
-    requires { at ≤ length buffer.old }
-    ensures count_in_bounds { IfOk result (λ count. at + count ≤ length buffer.old) }
-    ensures buffer_unchanged { take at buffer.new ≡ take at buffer.old }
-    ensures read { IfOk result (λ count. Consumes (R.remaining reader.old) (R.remaining reader.new) (take count (drop at buffer.new))) }
-    ensures end { IfOk result (λ count. count ≡ 0 → at < length buffer.old → IsAtEnd (R.remaining reader.new)) }
-    ensures none_lost { OnErr result (Keeps (R.remaining reader.old) (R.remaining reader.new)) }
+// One read, made again as long as a signal interrupts it before a byte is there.
+fn read_some<R: Read>(reader: &mut R, buffer: &mut [u8]) -> io::Result<usize>
+    ensures bound { ReadsAtMost result buffer.new }
+    ensures bytes { ReadConsumes (R.remaining reader.old) (R.remaining reader.new) result buffer.new }
 {
-    reader.read(&mut buffer[at..])
-}
-
-// The same, made again as long as a signal interrupts it before a byte is there.
-fn read_some<R: Read>(reader: &mut R, buffer: &mut [u8], at: usize) -> io::Result<usize>
-    requires { at ≤ length buffer.old }
-    ensures count_in_bounds { IfOk result (λ count. at + count ≤ length buffer.old) }
-    ensures buffer_unchanged { take at buffer.new ≡ take at buffer.old }
-    ensures read { IfOk result (λ count. Consumes (R.remaining reader.old) (R.remaining reader.new) (take count (drop at buffer.new))) }
-    ensures end { IfOk result (λ count. count ≡ 0 → at < length buffer.old → IsAtEnd (R.remaining reader.new)) }
-    ensures none_lost { OnErr result (Keeps (R.remaining reader.old) (R.remaining reader.new)) }
-{
-    for _ in 0..TRIES {
-        match read_at(reader, buffer, at) {
-            Ok(count) => return Ok(count),
-            Err(error) => {
-                if error.kind() != ErrorKind::Interrupted {
-                    return Err(error);
-                }
-            }
-        }
-    }
-    Err(io::Error::from(ErrorKind::Interrupted))
+    let mut read = || reader.read(buffer);
+    again(&mut read)
 }
 
 // Reads until the buffer is full from a place on, or the input ends, or a read fails, and answers how many bytes the buffer
@@ -54,7 +28,7 @@ pub fn fill<R: Read>(reader: &mut R, buffer: &mut [u8], from: usize) -> io::Resu
 {
     let mut at = from;
     while at < buffer.len() {
-        let count = read_some(reader, buffer, at)?;
+        let count = read_some(reader, &mut buffer[at..])?;
         if count == 0 {
             break;
         }
