@@ -1,10 +1,6 @@
 use Rattle.std.proofs.Common.{arith}
-use Rattle.book.proofs.Walked.{few-states}
 use Rattle.book.proofs.Reached.{reach-first, reach-next, reach-rest}
 use Rattle.book.proofs.reach.reach_from.Goals as goal
-
-pub only-set-requires : goal.only-set-requires
-only-set-requires c = omega (arith, few-states c.args.ends.now.rule.accepted)
 
 pub loop-round-init : goal.loop-round-init
 loop-round-init c = reach-first c.args.ends.now.rule.accepted c.args.ends.now.found c.args.state c.requires _ c.only-set.ensures
