@@ -1,11 +1,11 @@
 -- A block after the bytes so far: its events after theirs, and both readings after both.
 use mathlib.Core.Path.{◌≡◌, refl, sym, ap, ◌∙◌}
-use mathlib.Core.Bool.{Bool, true, false}
 use mathlib.Core.List.{List, [], ◌∷◌, ◌++◌}
 use Prim.Native.Nat.{ℕ, zero, suc, ◌+◌, ◌*◌, ◌/◌, ◌%◌, ◌≤◌}
 use native.Mathlib.Omega.{arith}
 use lib.ListN.{length, take, drop, length-append}
 use lib.Seq.{take_at, take_all, length-take-le}
+use Rattle.std.proofs.lemmas.Bool.{both_ways}
 use Rattle.std.proofs.Common.{Option, None, Some, IsSome, IfSome, IsSomeAnd}
 use Rattle.meaning.specs.CheckProgram.{events_in, program_fed}
 use Rattle.input.specs.Decoding.{event_count, decoded}
@@ -13,7 +13,7 @@ use Rattle.input.proofs.Pairs.{count-all, events-length}
 use Rattle.program.specs.declared.body.Body.{Body}
 use Rattle.program.specs.Passes.{pass_says, fed_on}
 use Rattle.program.specs.Bodies.{block_length, zero_book, Took, Carried}
-use Rattle.program.proofs.Feeds.{fed-more, not-both}
+use Rattle.program.proofs.Feeds.{fed-more}
 
 -- ---- the events of bytes
 
@@ -62,13 +62,13 @@ carried-front {front} {block} {after} {count} c fits =
 -- so many bytes more, while all are of the record
 grown : (before after : Option ℕ) (n more size : ℕ) → before ≡ Some n → IsSome after
     → IfSome after (λ m. IsSomeAnd before (λ k. m ≡ k + more) × (m ≤ size)) → (after ≡ Some (n + more)) × (n + more ≤ size)
-grown before None n more size e some h = absurd (not-both some refl)
+grown before None n more size e some h = absurd (both_ways _ refl some)
 grown before (Some m) n more size e some h =
     let sum : m ≡ n + more = rw e at h.0 in (ap Some sum, omega (arith, sum, h.1))
 
 was_some : (before after : Option ℕ) (more size : ℕ) → IsSome after
     → IfSome after (λ m. IsSomeAnd before (λ k. m ≡ k + more) × (m ≤ size)) → IsSome before
-was_some before None more size some h = absurd (not-both some refl)
+was_some before None more size some h = absurd (both_ways _ refl some)
 was_some None (Some m) more size some h = absurd h.0
 was_some (Some k) (Some m) more size some h = refl
 
@@ -96,5 +96,5 @@ module _ (file book : List ℕ) (size : ℕ) (body next : Body) (bytes block : L
                   ∙ (ap (λ w. fed_on file zero_book w (events_in block)) so_far.full_is
                   ∙ (fed-more file zero_book (events_in bytes) (events_in block) ∙ ap (program_fed file zero_book) (sym more)));
             };
-        when_after = λ e. absurd (not-both some e);
+        when_after = λ e. absurd (both_ways _ e some);
       }

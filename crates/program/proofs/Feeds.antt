@@ -1,14 +1,14 @@
 -- Feeding in parts: what a reading took so far and then more events is all of them, refused or not.
 use mathlib.Core.Path.{◌≡◌, refl, sym, ap, ◌∙◌}
-use mathlib.Core.Bool.{Bool, true, false}
+use mathlib.Core.Bool.{true, false}
 use mathlib.Core.List.{List, ◌++◌}
 use Prim.Native.Nat.{ℕ}
-use native.Mathlib.Omega.{arith}
 use lib.ListN.{replicate}
+use Rattle.std.proofs.Common.{Result, Ok, Err, is_ok}
+use Rattle.std.proofs.lemmas.Bool.{both_ways}
 use Rattle.meaning.specs.Answers.{Answer, given, refused}
 use Rattle.meaning.specs.RuleFile.{Rule, rule_of}
 use Rattle.meaning.specs.FullReading.{Went, fresh_reading, blank}
-use Rattle.std.proofs.Common.{Result, Ok, Err, is_ok}
 use Rattle.meaning.specs.Calls.{Stored, says, refusal_says, store_step, reading_check, feed_call, largest_ceiling}
 use Rattle.meaning.specs.CheckProgram.{program_fed, program_levels}
 use Rattle.meaning.specs.declared.Reading.{Reading}
@@ -18,9 +18,6 @@ use Rattle.meaning.proofs.laws.FeedLaws.{feed-append-refused}
 use Rattle.meaning.proofs.stores.ReadingCheck.{feed-checked, feed-unchecked}
 use Rattle.meaning.proofs.stores.SplitFeeds.{split-feeds}
 use Rattle.program.specs.Passes.{fed_on}
-
-pub not-both : {b : Bool} → b ≡ true → b ≡ false → ⊥
-not-both e f = let z : ◌≡◌ {A = ℕ} 0 1 = cc in omega arith
 
 module _ (file book : List ℕ) (w : Went Stored) (events : List ℕ) where
   pub on-given : w.ended ≡ given tt
@@ -36,11 +33,11 @@ module _ (file book : List ℕ) (w : Went Stored) (events : List ℕ) where
 pub ended-given : (r : Result (Unit {0}) Refusal) → is_ok r ≡ true → says r ≡ given tt
 unfolding says
 ended-given (Ok u) e = refl
-ended-given (Err r) e = absurd (not-both e refl)
+ended-given (Err r) e = absurd (both_ways _ refl e)
 
 pub ended-refused : (r : Result (Unit {0}) Refusal) → is_ok r ≡ false → (number : ℕ) × (place : ℕ) × (says r ≡ refused number place)
 unfolding says refusal_says
-ended-refused (Ok u) e = absurd (not-both refl e)
+ended-refused (Ok u) e = absurd (both_ways _ e refl)
 ended-refused (Err r) e = (r.number, r.place, refl)
 
 -- after a refusal no event is looked at

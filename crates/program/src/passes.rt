@@ -20,6 +20,14 @@ pub struct Pass {
     pub levels: [Level; LEVELS],
 }
 
+// Levels that hold nothing.
+#[tactic(auto, unfolding(meaning::specs::FullReading::blank))]
+fn no_levels() -> [Level; LEVELS]
+    ensures { result ≡ replicate program_levels blank }
+{
+    [Level::default(); LEVELS]
+}
+
 impl Pass {
     // Before the first event: a feed of none, from the reading that opening gave.
     pub fn begin(file: &[u8], book: &[u64], first: Reading) -> Pass
@@ -28,7 +36,7 @@ impl Pass {
         let mut pass = Pass {
             reading: first,
             ended: Ok(()),
-            levels: [Level::default(); LEVELS],
+            levels: no_levels(),
         };
         pass.go_on(file, book, &[]);
         pass

@@ -9,7 +9,8 @@ use std::marker::Model;
 // The bytes that a text has room for.
 const ROOM: usize = 192;
 
-// The bytes so far are the first of the room.
+// The bytes so far are the first of the room. It is no `ArrayVec`, whose writes ask for room or answer a `Result`: here what finds
+// no room is left out, and no line asks for any.
 #[derive(Drop)]
 pub struct Text {
     bytes: [u8; ROOM],

@@ -10,7 +10,7 @@ use native.Mathlib.Numerals.{add-one}
 use native.Mathlib.Omega.{arith}
 use borrow.Author.Tests.{eq-eqb, ne_eqb}
 use lib.ListN.{length, get_or, take, drop, length-append, length-take, length-drop}
-use lib.Seq.{take-suc, take-add, take-take, take-length, drop-append_seam, drop-drop, get_or-drop}
+use lib.Seq.{take-suc, take-add, take-take, drop-append_seam, drop-drop, get_or-drop}
 use Rattle.std.specs.List.{All, sum_by}
 use Rattle.std.specs.Int.{from_bool}
 use Rattle.std.specs.Option.{SomeIff, IfSome}
@@ -230,11 +230,6 @@ module _ (events : List ℕ) (begun at : ℕ) where
   }
 
   -- how far they go
-  pub part-room : (i : ℕ) (d : Depths) → i < begun → PartOf events begun at i d → (0 < d.last) × (d.last ≤ begun + i)
-  part-room i d room h =
-      let few = length-take i (drop at events) in
-      (omega (arith, h.begun_is, h.depths.few_closes, h.depths.not_past), omega (arith, h.begun_is, h.depths.few_opens))
-
   pub part-short : (i : ℕ) (d : Depths) → i ≤ 256 → begun ≤ 256 → PartOf events begun at i d → Short d
   part-short i d long deep h =
       let few = length-take i (drop at events) in
@@ -282,10 +277,6 @@ module _ (known : ℕ) where
       → AllPassed known b (get_or events i 0 ∷ []) c → AllPassed known a (take (i + 1) events) c
   passed-more events a b c i inside h h' =
       rw (add-one i, take-suc events i 0 inside) (passed-append a b c (take i events) (get_or events i 0 ∷ []) h h')
-
-  -- all of a run
-  pub passed_whole : (a b : ℕ) (events : List ℕ) → AllPassed known a events b → PassedIn known a events (record { count = length events; skip = b })
-  passed_whole a b events h = record { within = omega arith; passed = rw (take-length events) h }
 
   -- the first part of a run
   pub passed_front : (a m : ℕ) (events : List ℕ) (p : Passed) → PassedIn known a (take m events) p → PassedIn known a events p

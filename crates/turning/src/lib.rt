@@ -10,7 +10,7 @@ pub mod turns;
 ghost use Rattle.std.specs.Prelude.{◌≡◌, Ok, None};
 ghost use Rattle.turning.specs.Readings.{StatesIn, Counted};
 
-use meaning::{Level, Reading, Refusal};
+use meaning::{Level, Reading, Reason, Refusal};
 use rule::CheckedRule;
 
 // What an event is judged by: the rule, the length of the level store, the ceiling, the reading, and the innermost level's record.
@@ -42,15 +42,18 @@ pub struct PassedTo {
     pub next: usize,
 }
 
-// Where feeding stands: the reading there, the index of the next event, and whether one was refused, as then none is left.
+// Where feeding stands: the reading there, the index of the next event, and whether one was refused, as then none is left. The place
+// of a refused event is not kept beside its reason, since the reading has it: the count of events taken.
 #[derive(Clone, Copy)]
 pub struct Going {
     pub reading: Reading,
     pub next: usize,
-    pub ended: Result<(), Refusal>,
+    pub ended: Result<(), Reason>,
 }
 
 impl Going {
+    ghost use Rattle.turning.specs.Advancing.{ended_at};
+
     // Feeding goes on at the event given: none was refused.
     pub fn on(reading: Reading, next: usize) -> Self
         ensures { result ≡ record { reading = reading; next = next; ended = Ok tt } }
@@ -60,6 +63,15 @@ impl Going {
             next,
             ended: Ok(()),
         }
+    }
+
+    // How feeding ended, with the place of the event that was refused.
+    #[tactic(auto, unfolding(crate::specs::Advancing::ended_at, crate::specs::Advancing::placed))]
+    pub fn end(self) -> Result<(), Refusal>
+        ensures { result ≡ ended_at self }
+    {
+        self.ended
+            .map_err(|reason| reason.at(self.reading.taken as usize))
     }
 }
 

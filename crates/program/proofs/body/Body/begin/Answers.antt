@@ -5,7 +5,7 @@ use Rattle.meaning.specs.Calls.{Stored, feed_call, largest_ceiling}
 use Rattle.meaning.specs.declared.Reading.{Reading}
 use Rattle.meaning.specs.CheckProgram.{program_levels, program_fed, events_in}
 use Rattle.program.specs.Bodies.{zero_book}
-use Rattle.program.proofs.Feeds.{not-both}
+use Rattle.std.proofs.lemmas.Bool.{both_ways}
 use Rattle.program.proofs.body.Body.begin.Goals as goal
 
 pub returns : goal.returns
@@ -22,5 +22,5 @@ returns c =
             skip_is = c.begin.ensures ∙ ap (fed a.book.now) fresh;
             full_is = c.begin-2.ensures ∙ (ap (λ z. fed z a.first) c.zeros.ensures.zeros ∙ ap (fed zero_book) fresh);
           };
-      when_after = λ e. absurd (not-both refl e);
+      when_after = λ e. absurd (both_ways _ e refl);
     }

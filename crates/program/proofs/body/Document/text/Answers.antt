@@ -1,5 +1,5 @@
 -- Bytes after the record, a record cut short, or both lines.
-use Rattle.std.proofs.Common.{◌≡◌, ◌+◌, ◌<◌, length, ◌∙◌, ap, arith, IsSome, refl}
+use Rattle.std.proofs.Common.{◌≡◌, ◌<◌, length, ◌∙◌, ap, arith, IsSome, refl}
 use Rattle.meaning.specs.Calls.{number_of}
 use Rattle.meaning.specs.CheckProgram.{events_in, program_fed}
 use Rattle.program.specs.Passes.{pass_says}

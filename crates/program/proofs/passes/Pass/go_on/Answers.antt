@@ -16,11 +16,11 @@ returns-then-is_ok c =
     = rw (fed.reading_is, fed.store_is, fed.ended_is) refl in
     led
     ∙ sym (on-given a.file.now a.book.now (pass_says a.self.now) a.events.now
-    (ended-given a.self.now.ended (sym c.is_ok.ensures ∙ c.if-is_ok.true)))
+    (ended-given a.self.now.ended (sym c.is_ok.ensures.value ∙ c.if-is_ok.true)))
 
 pub returns-else-is_ok : goal.returns-else-is_ok
 unfolding pass_says
 returns-else-is_ok c =
     let a = c.args in
-    let e = ended-refused a.self.now.ended (sym c.is_ok.ensures ∙ c.if-is_ok.false) in
+    let e = ended-refused a.self.now.ended (sym c.is_ok.ensures.value ∙ c.if-is_ok.false) in
     sym (on-refused a.file.now a.book.now (pass_says a.self.now) a.events.now e.2)
