@@ -22,7 +22,8 @@ pub fn target(found: Result<u8, Table>) -> u64
     }
 }
 
-// The states that the letters lead to from a state.
+// The states that the letters lead to from a state. Letters are no members of a set, and more of them than a set has, so this is
+// no `union_of`.
 fn by_letters(rule: CheckedRule, state: u8) -> u64
     requires { state < rule.rule.states }
     ensures { StandsFor result (by_letters (rule_of rule.entry.file.now) state) }

@@ -16,27 +16,29 @@ pub struct Reach<'a> {
     ghost reached: { Reached (rule_of ends.rule.file.now) 63 sets } by { Reached-prop (rule_of ends.rule.file.now) 63 sets },
 }
 
-// The states reached from a state. A round that adds nothing ends them, since none after it adds.
-fn reach_from(ends: &TreeEnds, state: u8) -> u64
-    requires { state < ends.now.rule.rule.states }
-    ensures { result ≡ reached_word (rule_of ends.now.rule.file.now) 63 state }
-{
-    let mut set = only(state);
-    for _round in 0..BEFORE_LAST {
-        let next = with_members(&ends.moves, set);
-        if next == set {
-            break;
+impl<'a> TreeEnds<'a> {
+    // The states reached from a state. A round that adds nothing ends them, since none after it adds.
+    fn reach_from(&self, state: u8) -> u64
+        requires { state < self.now.rule.rule.states }
+        ensures { result ≡ reached_word (rule_of self.now.rule.file.now) 63 state }
+    {
+        let mut set = only(state);
+        for _round in 0..BEFORE_LAST {
+            let next = with_members(&self.moves, set);
+            if next == set {
+                break;
+            }
+            set = next;
         }
-        set = next;
+        set
     }
-    set
 }
 
 impl<'a> Reach<'a> {
     pub fn of(ends: TreeEnds<'a>) -> Self
         ensures { result.ends ≡ ends.entry }
     {
-        let sets = table_of(ends.rule.rule.states, |state| reach_from(&ends, state));
+        let sets = table_of(ends.rule.rule.states, |state| ends.reach_from(state));
         Reach { ends, sets }
     }
 
