@@ -10,7 +10,10 @@ use lib.Bits.{bit_and}
 use lib.ListN.{length, get_or, take}
 use borrow.Author.Tests.{eqb-true, eq-eqb, not-true}
 use Rattle.meaning.specs.Answers.{◌=?◌}
-use Rattle.meaning.specs.RuleFile.{Rule, IsRule, tree_move}
+use Rattle.meaning.specs.RuleFile.{Rule, IsRule, tree_move, rule_of}
+use Rattle.rule.specs.declared.Rule as numbers
+use Rattle.rule.specs.Says.{RuleOf}
+use Rattle.meaning.proofs.rulefile.Accepted.{accepted-is-rule}
 use Rattle.meaning.specs.SkipBook.{all_below, listed, marked, none_or, reach_marks, still_marks, hold_marks, book_of, word_of, bit}
 use Rattle.meaning.proofs.laws.Answered.{and-true, both_true}
 use Rattle.meaning.proofs.laws.Truths.{truth, same_truth, true-is-not-false, implied, implies}
@@ -20,7 +23,8 @@ use Rattle.meaning.proofs.skipbook.Rounds.{most-states, start-marked}
 use Rattle.meaning.proofs.skipbook.Bits.{bit_word, bit-and, bit-only, bit-zero, same_bits}
 use Rattle.book.specs.Sets.{StandsFor, first_of, reached_word, Reached, changing, Holds}
 use Rattle.book.proofs.Standing.{stands-as, stands_word, first-true, first-in}
-use Rattle.book.proofs.InRounds.{reached-below}
+use Rattle.book.proofs.Walked.{states-are}
+use Rattle.book.proofs.InRounds.{reached-below, reached-last}
 
 -- a word that stands for the first n states that pass a test is the word of n marks
 pub first-word-of : (w n : ℕ) (test : ℕ → Bool) → w < 2 ^ 64 → n ≤ 64 → StandsFor w (first_of n test) → w ≡ word_of (listed n test)
@@ -79,19 +83,31 @@ module _ (R : Rule) (rule : IsRule R) (q : ℕ) (start : q < R.states) where
 
 -- ---- the words of the book
 
-module _ (R : Rule) (rule : IsRule R) (reach : List ℕ) (reached : Reached R 64 reach) (w : ℕ) (small : w < 2 ^ 64) where
-  pub still-is-word : StandsFor w (first_of R.states (λ q. get_or reach q 0 =? 2 ^ q)) → w ≡ word_of (still_marks R)
+module _ {file : List ℕ} {rule : numbers.Rule} (ok : RuleOf file rule) (reach : List ℕ) (reached : Reached (rule_of file) 63 reach) (w : ℕ) (small : w < 2 ^ 64) where
+  abbrev R : Rule
+  R = rule_of file
+
+  is-rule : IsRule R
+  is-rule = accepted-is-rule file ok.accepted
+
+  last-reached : Reached R 64 reach
+  last-reached = reached-last R is-rule reach reached
+
+  gathered : (test : ℕ → Bool) → StandsFor w (first_of rule.states test) → w ≡ word_of (listed R.states test)
+  gathered test s = first-word-of w R.states test small (most-states is-rule) (rw (sym (states-are ok)) at s)
+
+  pub still-is-word : StandsFor w (first_of rule.states (λ q. get_or reach q 0 =? 2 ^ q)) → w ≡ word_of (still_marks R)
   unfolding still_marks Reached
   still-is-word s =
-      first-word-of w R.states _ small (most-states rule) s
-      ∙ ap word_of (listed_same R.states _ _ (λ q h. ap (λ (v : ℕ). v =? 2 ^ q) (reached q h) ∙ still-test R rule q h))
+      gathered _ s
+      ∙ ap word_of (listed_same R.states _ _ (λ q h. ap (λ (v : ℕ). v =? 2 ^ q) (last-reached q h) ∙ still-test R is-rule q h))
 
   pub hold-is-word : (u change : ℕ) → StandsFor change (changing R u)
-      → StandsFor w (first_of R.states (λ p. bit_and (get_or reach p 0) change =? 0)) → w ≡ word_of (hold_marks R u)
+      → StandsFor w (first_of rule.states (λ p. bit_and (get_or reach p 0) change =? 0)) → w ≡ word_of (hold_marks R u)
   unfolding hold_marks Reached
   hold-is-word u change c s =
-      first-word-of w R.states _ small (most-states rule) s
-      ∙ ap word_of (listed_same R.states _ _ (λ p h. ap (λ (v : ℕ). bit_and v change =? 0) (reached p h) ∙ hold-test R rule p h u change c))
+      gathered _ s
+      ∙ ap word_of (listed_same R.states _ _ (λ p h. ap (λ (v : ℕ). bit_and v change =? 0) (last-reached p h) ∙ hold-test R is-rule p h u change c))
 
 -- the first n words of a table that has them
 take-listed : (n : ℕ) (table : List ℕ) (f : ℕ → ℕ) → n ≤ length table → ((i : ℕ) → i < n → get_or table i 0 ≡ f i) → take n table ≡ listed n f

@@ -5,9 +5,8 @@ use mathlib.Core.Path.{◌≡◌, refl, sym, ap, ◌∙◌}
 use mathlib.Core.Logic.{⊎_elim}
 use mathlib.Core.Bool.{Bool, true, false, not, ◌&&◌}
 use mathlib.Core.List.{List}
-use Prim.Native.Nat.{ℕ, zero, suc, ◌+◌, ◌^◌, ◌≤◌, ◌<◌}
+use Prim.Native.Nat.{ℕ, zero, suc, ◌^◌, ◌≤◌, ◌<◌}
 use native.Mathlib.Decide.{le_ind}
-use native.Mathlib.Numerals.{add-one}
 use native.Mathlib.Omega.{arith}
 use lib.ListN.{length, get_or}
 use lib.Pow.{pow-lt}
@@ -101,14 +100,14 @@ module _ (R : Rule) (rule : IsRule R) (q : ℕ) (start : q < R.states) where
   pub reached-below : (i p : ℕ) → marked (reached_in R i q) p ≡ true → p < R.states
   reached-below i p e = reach-below rule start (marked-reached R rule i q p e)
 
-  reached-next-word : (moves : List ℕ) → Moves R (end_marks R) moves → (i next : ℕ) → next < 2 ^ 64
+  pub reached-next-word : (moves : List ℕ) → Moves R (end_marks R) moves → (i next : ℕ) → next < 2 ^ 64
       → StandsFor next (joined moves (reached_word R i q)) → next ≡ reached_word R (suc i) q
   unfolding reached_word
   reached-next-word moves good i next small s =
       next_word R rule (end_marks R) (reached_in R i q) moves good (reached-below i) next small s ∙ ap word_of (sym (reached-next R i q))
 
   -- the set of the start alone is the word before the first round
-  first_word : 2 ^ q ≡ reached_word R zero q
+  pub first_word : 2 ^ q ≡ reached_word R zero q
   unfolding reached_word
   first_word =
       let few : length (only_state R q) ≤ 64 = omega (arith, only-length R q, most-states rule) in
@@ -119,7 +118,7 @@ module _ (R : Rule) (rule : IsRule R) (q : ℕ) (start : q < R.states) where
       (λ m. eq-eqb q p (sym (only-true R q p m)))) (stands-only q))
       ∙ ap word_of (sym (reached-first R q))
 
-  reached-rests : (i : ℕ) → reached_word R (suc i) q ≡ reached_word R i q → (j : ℕ) → i ≤ j → reached_word R j q ≡ reached_word R i q
+  pub reached-rests : (i : ℕ) → reached_word R (suc i) q ≡ reached_word R i q → (j : ℕ) → i ≤ j → reached_word R j q ≡ reached_word R i q
   unfolding reached_word reached_in
   reached-rests = word-rests R (round R (end_marks R)) (reach-keeps R) (reach-alike R) (only_state R q) reached-below
 
@@ -129,61 +128,13 @@ module _ (R : Rule) (rule : IsRule R) (q : ℕ) (start : q < R.states) where
       word-stays R (round R (end_marks R)) (reach-keeps R) (reach-alike R) (only_state R q) reached-below 63 (reach-never-used-up R rule q start)
 
   module _ (set next : ℕ) (before : set ≡ reached_word R 63 q) (then : next ≡ reached_word R 64 q) where
-    reached-same : next ≡ set → adds R (reached_in R 63 q) (reached_in R 64 q) ≡ false
+    pub reached-same : next ≡ set → adds R (reached_in R 63 q) (reached_in R 64 q) ≡ false
     unfolding reached_word reached_in
     reached-same = same-adds R (round R (end_marks R)) (reach-keeps R) (reach-alike R) (only_state R q) reached-below 63 set next before then
 
-    reached-other : (next ≡ set → ⊥) → adds R (reached_in R 63 q) (reached_in R 64 q) ≡ true
+    pub reached-other : (next ≡ set → ⊥) → adds R (reached_in R 63 q) (reached_in R 64 q) ≡ true
     unfolding reached_word reached_in
     reached-other = other-adds R (round R (end_marks R)) (reach-keeps R) (reach-alike R) (only_state R q) reached-below 63 set next before then
-
--- ---- the same of every rule whose moves a table has
-
--- the word of so many rounds from q
-abbrev pub AfterRounds : List ℕ → ℕ → ℕ → ℕ → Type 0
-AfterRounds moves q i word = (R : Rule) → IsRule R → Moves R (end_marks R) moves → q < R.states → word ≡ reached_word R i q
-
-module _ (moves : List ℕ) (q : ℕ) where
-  pub after_none : (word : ℕ) → word ≡ 2 ^ q → AfterRounds moves q 0 word
-  after_none word e R rule good start = e ∙ first_word R rule q start
-
-  pub after_next : (i word next : ℕ) → next < 2 ^ 64 → StandsFor next (joined moves word) → AfterRounds moves q i word
-      → AfterRounds moves q (i + 1) next
-  after_next i word next small s after R rule good start =
-      reached-next-word R rule q start moves good i next small (rw (after R rule good start) at s)
-      ∙ ap (λ (k : ℕ). reached_word R k q) (sym (add-one i))
-
-  -- where the next round changes nothing
-  pub after-rest : (i word next : ℕ) → next < 2 ^ 64 → StandsFor next (joined moves word) → AfterRounds moves q i word → next ≡ word
-      → (j : ℕ) → i ≤ j → AfterRounds moves q j word
-  after-rest i word next small s after e j l R rule good start =
-      let now = after R rule good start in
-      let then = after_next i word next small s after R rule good start ∙ ap (λ (k : ℕ). reached_word R k q) (add-one i) in
-      now ∙ sym (reached-rests R rule q start i (sym then ∙ e ∙ now) j l)
-
--- ---- the last round
-
-module _ (moves reach : List ℕ) where
-  -- what the last round does from q
-  abbrev pub LastAdds : ℕ → Bool → Type 0
-  LastAdds q b =
-      (R : Rule) → IsRule R → Moves R (end_marks R) moves → Reached R 63 reach → q < R.states
-      → adds R (reached_in R 63 q) (reached_in R 64 q) ≡ b
-
-  module _ (q next : ℕ) (small : next < 2 ^ 64) (s : StandsFor next (joined moves (get_or reach q 0))) where
-    last_word : (R : Rule) → IsRule R → Moves R (end_marks R) moves → Reached R 63 reach → q < R.states → next ≡ reached_word R 64 q
-    unfolding Reached
-    last_word R rule good reached start = reached-next-word R rule q start moves good 63 next small (rw (reached q start) at s)
-
-    pub last-same : next ≡ get_or reach q 0 → LastAdds q false
-    unfolding Reached
-    last-same e R rule good reached start =
-        reached-same R rule q start (get_or reach q 0) next (reached q start) (last_word R rule good reached start) e
-
-    pub last-other : (next ≡ get_or reach q 0 → ⊥) → LastAdds q true
-    unfolding Reached
-    last-other ne R rule good reached start =
-        reached-other R rule q start (get_or reach q 0) next (reached q start) (last_word R rule good reached start) ne
 
 -- the last round adds nothing, so the words before it are those after it
 pub reached-last : (R : Rule) → IsRule R → (reach : List ℕ) → Reached R 63 reach → Reached R 64 reach

@@ -4,5 +4,6 @@ pub mod Standing
 pub mod Walked
 pub mod InRounds
 pub mod EndSet
+pub mod Reached
 pub mod BookWords
 pub mod Makes

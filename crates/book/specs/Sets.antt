@@ -1,5 +1,6 @@
 -- What the parts of the making work on: words that stand for sets of states.
 use Rattle.std.specs.Prelude.{◌≡◌, Bool, true, not, ◌&&◌, ◌||◌, List, ℕ, ◌<◌, get_or}
+use Rattle.std.specs.Coded.{Coded-set, coded_ℕ, coded_bool, Π_prop}
 use Rattle.meaning.specs.Answers.{◌<?◌}
 use Rattle.meaning.specs.RuleFile as format
 use Rattle.meaning.specs.RuleFile.{letter_move, tree_move}
@@ -28,6 +29,10 @@ by_trees R lowers p p' = any_below R.states (λ lower. bit lowers lower && goes_
 unfoldable pub Moves : format.Rule → List Bool → List ℕ → Type 0
 Moves R lowers table = (q : ℕ) → q < R.states → StandsFor (get_or table q 0) (one_move R lowers q)
 
+pub Moves-prop : (R : format.Rule) (lowers : List Bool) (table : List ℕ) → IsProp (Moves R lowers table)
+unfolding Moves StandsFor
+Moves-prop R lowers table = Π_prop (λ q. Π_prop (λ h. Π_prop (λ p. Π_prop (λ l. Coded-set coded_bool _ _))))
+
 -- a table with the tree moves of more lower states
 unfoldable pub WithTrees : format.Rule → ℕ → List ℕ → List ℕ → Type 0
 WithTrees R lowers table more =
@@ -50,12 +55,23 @@ pub record EndsFound (R : format.Rule) (i set : ℕ) (moves : List ℕ) : Type 0
   pub set_is : set ≡ ends_word R i
   pub moves_are : Moves R (ends_in R i) moves
 
+pub EndsFound-prop : (R : format.Rule) (i set : ℕ) (moves : List ℕ) → IsProp (EndsFound R i set moves)
+EndsFound-prop R i set moves a b =
+    λ j. record {
+      set_is = Coded-set coded_ℕ _ _ a.set_is b.set_is j;
+      moves_are = Moves-prop R (ends_in R i) moves a.moves_are b.moves_are j;
+    }
+
 -- the word of the states reached from q in so many rounds, and a table of these words
 unfoldable pub reached_word : format.Rule → ℕ → ℕ → ℕ
 reached_word R i q = word_of (reached_in R i q)
 
 unfoldable pub Reached : format.Rule → ℕ → List ℕ → Type 0
 Reached R i table = (q : ℕ) → q < R.states → get_or table q 0 ≡ reached_word R i q
+
+pub Reached-prop : (R : format.Rule) (i : ℕ) (table : List ℕ) → IsProp (Reached R i table)
+unfolding Reached
+Reached-prop R i table = Π_prop (λ q. Π_prop (λ h. Coded-set coded_ℕ _ _))
 
 -- a table that has the word of hold(u) for each state u
 unfoldable pub Holds : format.Rule → List ℕ → Type 0

@@ -3,8 +3,9 @@
 #![tactic(auto)]
 
 mod moves;
-mod rounds;
+mod reach;
 mod sets;
+mod tree_ends;
 mod words;
 
 ghost use Rattle.std.specs.Prelude.{◌≡◌};
@@ -13,23 +14,24 @@ ghost use Rattle.meaning.specs.SkipBook.{make_book, book_after};
 ghost use Rattle.meaning.specs.Calls.{says};
 
 use meaning::{Reason, Refusal};
+use reach::Reach;
 use rule::CheckedRule;
+use tree_ends::TreeEnds;
+
+// The rounds before the last one.
+const BEFORE_LAST: u8 = 63;
 
 // The book of an accepted rule: how many states are still, or a refusal, which leaves what was lent untouched.
 pub fn make_book(rule: CheckedRule, book: &mut [u64]) -> Result<u32, Refusal>
     ensures answer { says result ≡ make_book (rule_of rule.entry.file.now) book.old }
     ensures book_after { book.new ≡ book_after (make_book (rule_of rule.entry.file.now) book.old) (rule_of rule.entry.file.now) book.old }
 {
-    let states = rule.rule.states;
-    if book.len() <= states as usize {
+    if book.len() <= rule.rule.states as usize {
         return Err(Reason::BookTooShort.at(0));
     }
-    let ends = rounds::tree_ends(rule);
-    let moves = ends.moves;
-    let reach = rounds::reach_from_all(&moves, states);
-    let used_up = rounds::last_adds(&moves, ends.set, &reach, states);
-    if used_up {
+    let reach = Reach::of(TreeEnds::of(rule));
+    if reach.last_round_adds() {
         return Err(Reason::RoundsUsedUp.at(0));
     }
-    Ok(words::write_book(rule, &reach, book))
+    Ok(reach.write_book(book))
 }

@@ -22,7 +22,8 @@ pub fn target(found: Result<u8, Table>) -> u64
     }
 }
 
-// The states that the letters lead to from a state.
+// The states that the letters lead to from a state. Letters are no members of a set, and more of them than a set has, so this is
+// no `union_of`.
 fn by_letters(rule: CheckedRule, state: u8) -> u64
     requires { state < rule.rule.states }
     ensures { StandsFor result (by_letters (rule_of rule.entry.file.now) state) }
@@ -57,14 +58,9 @@ pub fn with_trees(rule: CheckedRule, table: &[u64; 64], lowers: u64) -> [u64; 64
     requires { StatesOf rule.rule.states lowers }
     ensures { WithTrees (rule_of rule.entry.file.now) lowers table.now result }
 {
-    table_of(
-        rule.rule.states,
-        |upper|
-            requires is_state { upper < rule.rule.states }
-            requires lowers_are_states { StatesOf rule.rule.states lowers }
-            ensures { StandsFor result (λ p. bit (get_or table.entry.now upper 0) p || by_trees (rule_of rule.entry.file.now) lowers upper p) }
-        { table[upper as usize] | by_trees(rule, upper, lowers) },
-    )
+    table_of(rule.rule.states, |upper| {
+        table[upper as usize] | by_trees(rule, upper, lowers)
+    })
 }
 
 // Whether a tree move leads from its upper state to another one.
@@ -81,9 +77,7 @@ pub fn changes(rule: CheckedRule, upper: u8) -> u64
     ensures { StandsFor result (changing (rule_of rule.entry.file.now) upper) }
 {
     states_with(rule.rule.states, |lower| {
-        changed(
-            rule::tables::tree_move(rule.file, rule.rule, upper, lower),
-            upper,
-        )
+        let found = rule::tables::tree_move(rule.file, rule.rule, upper, lower);
+        changed(found, upper)
     })
 }

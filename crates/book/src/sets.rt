@@ -89,12 +89,5 @@ pub fn table_of<F: Fn(u8) -> u64>(states: u8, set_of: F) -> [u64; 64]
 pub fn with_members(table: &[u64; 64], set: u64) -> u64
     ensures { StandsFor result (joined table.now set) }
 {
-    let moved = union_of(
-        set,
-        |member|
-            requires { member < 64 }
-            ensures { result ≡ get_or table.entry.now member 0 }
-        { table[member as usize] },
-    );
-    set | moved
+    set | union_of(set, |member| table[member as usize])
 }

@@ -1,13 +1,12 @@
 // Readings that are opened, with the rule's own book: the cases with few levels and with a low ceiling.
-use crate::rules::rule_a;
+use crate::rules::RULE_A;
 use crate::stores::{Case, ENOUGH, reading_and_book};
 use meaning::Level;
 use std::io;
 
 pub fn cases(rt: &impl Print) -> io::Result<()> {
-    let file = rule_a();
-    let (_, book) = reading_and_book(&file);
-    let skipping = Case::opened(&file, &book);
+    let (_, book) = reading_and_book(&RULE_A);
+    let skipping = Case::opened(&RULE_A, &book);
     let one_level = Case {
         name: "A6 with one level",
         events: &[0, 0, 3, 1, 1],
@@ -63,11 +62,10 @@ pub fn cases(rt: &impl Print) -> io::Result<()> {
 
 // Full reading of rule A, opened and then fed with a book of zeros: no move inside what skipping passes over.
 pub fn full_case(rt: &impl Print) -> io::Result<()> {
-    let file = rule_a();
     let case = Case {
         name: "A4 in full",
         events: &[0, 3, 1, 3],
-        ..Case::opened(&file, &[0; 4])
+        ..Case::opened(&RULE_A, &[0; 4])
     };
     case.tell_end(rt, [Level::default(); ENOUGH])
 }

@@ -1,7 +1,7 @@
 // Reach counts only lower states in which a tree can end: books that differ from those with any lower state, and a document that
 // is now skipped.
 use crate::files::open;
-use crate::rules::{rule_met_later, rule_no_start, rule_with_spare};
+use crate::rules::{RULE_MET_LATER, RULE_NO_START, RULE_WITH_SPARE};
 use crate::stores::{Case, ENOUGH};
 use meaning::Level;
 use std::io;
@@ -10,11 +10,10 @@ pub fn cases(rt: &impl Print) -> io::Result<()> {
     open(
         rt,
         "no tree start, where no tree move counts",
-        &rule_no_start(),
+        &RULE_NO_START,
     )?;
-    open(rt, "a lower state met later", &rule_met_later())?;
-    let spare = rule_with_spare();
-    open(rt, "a spare row", &spare)?;
+    open(rt, "a lower state met later", &RULE_MET_LATER)?;
+    open(rt, "a spare row", &RULE_WITH_SPARE)?;
     let books = [
         ("a spare row, by its book", [6, 3, 3, 7]),
         ("a spare row, by the book that counts it", [4, 0, 0, 7]),
@@ -25,7 +24,7 @@ pub fn cases(rt: &impl Print) -> io::Result<()> {
         let case = Case {
             name,
             events: &[0, 2, 0, 2, 1, 2, 1, 3, 2],
-            ..Case::opened(&spare, &book)
+            ..Case::opened(&RULE_WITH_SPARE, &book)
         };
         case.tell_end(rt, [Level::default(); ENOUGH])?;
     }

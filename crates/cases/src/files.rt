@@ -1,13 +1,13 @@
 // The rule check, the writer and opening: every refusal that they can be brought to give.
 use crate::lines;
-use crate::rules::{longer_a, rule_a, rule_b, rule_c, rule_of_none, rule_of_one};
+use crate::rules::{RULE_A, RULE_B, RULE_C, RULE_OF_NONE, RULE_OF_ONE, longer_a};
 use rule::Rule;
 use rule::writer::{self, Parts};
 use std::io;
 
 // Rule A with one byte changed.
 fn changed(place: usize, byte: u8) -> [u8; 47] {
-    let mut file = rule_a();
+    let mut file = RULE_A;
     if let Some(old) = file.get_mut(place) {
         *old = byte;
     }
@@ -15,12 +15,11 @@ fn changed(place: usize, byte: u8) -> [u8; 47] {
 }
 
 pub fn rule_checks(rt: &impl Print) -> io::Result<()> {
-    let file = rule_a();
     let fronts = [
-        ("rule A", &file[..]),
+        ("rule A", &RULE_A[..]),
         ("an empty file", &[]),
-        ("a header cut short", &file[..14]),
-        ("a body cut short", &file[..20]),
+        ("a header cut short", &RULE_A[..14]),
+        ("a body cut short", &RULE_A[..20]),
     ];
     for (name, front) in fronts {
         lines::checked(rt, name, Rule::of_file(front))?;
@@ -107,18 +106,17 @@ pub fn open(rt: &impl Print, name: &str, file: &[u8]) -> io::Result<()> {
 }
 
 pub fn openings(rt: &impl Print) -> io::Result<()> {
-    open(rt, "rule A opened", &rule_a())?;
-    open(rt, "rule B opened", &rule_b())?;
-    open(rt, "rule C opened", &rule_c())?;
+    open(rt, "rule A opened", &RULE_A)?;
+    open(rt, "rule B opened", &RULE_B)?;
+    open(rt, "rule C opened", &RULE_C)?;
     open(rt, "another initial state opened", &changed(7, 1))?;
-    open(rt, "one state opened", &rule_of_one())?;
-    open(rt, "no moves opened", &rule_of_none())
+    open(rt, "one state opened", &RULE_OF_ONE)?;
+    open(rt, "no moves opened", &RULE_OF_NONE)
 }
 
 pub fn unopened(rt: &impl Print) -> io::Result<()> {
-    let a = rule_a();
-    open(rt, "a cut file opened", &a[0..46])?;
+    open(rt, "a cut file opened", &RULE_A[0..46])?;
     let mut book = [7; 4];
-    let answer = reading::open(&a, &mut book[..3]);
+    let answer = reading::open(&RULE_A, &mut book[..3]);
     lines::opened(rt, "a book of three words", answer, book)
 }

@@ -14,15 +14,16 @@ const LETTER_MOVES: usize = STATES * LETTERS;
 
 const TREE_MOVES: usize = STATES * STATES;
 
-const LONGEST: usize = 29 + LETTER_MOVES + TREE_MOVES + STATES;
+// four headers, the four numbers and the three tables
+const LONGEST: usize = 4 * 6 + 5 + LETTER_MOVES + TREE_MOVES + STATES;
 
 // A rule that never moves, with every class accepting and no tree start.
 const NO_MOVE: Parts<'static> = Parts {
     rule: Rule {
-        states: 64,
+        states: Rule::MOST_STATES,
         initial: 0,
         tree_start: Rule::NONE,
-        letters: 256,
+        letters: Rule::MOST_LETTERS,
     },
     letter_moves: &[Rule::NONE; LETTER_MOVES],
     tree_moves: &[Rule::NONE; TREE_MOVES],
@@ -31,7 +32,11 @@ const NO_MOVE: Parts<'static> = Parts {
 
 // The next state, and a state of its own for the last one.
 fn next_of(state: usize, last: u8) -> u8 {
-    if state < 63 { state as u8 + 1 } else { last }
+    if state < STATES - 1 {
+        state as u8 + 1
+    } else {
+        last
+    }
 }
 
 fn book_of(rt: &impl Print, name: &str, file: &[u8]) -> io::Result<()> {
@@ -63,8 +68,10 @@ pub fn letters(rt: &impl Print) -> io::Result<()> {
 pub fn trees(rt: &impl Print) -> io::Result<()> {
     // only a state with itself as lower state has a move, and the last one goes back
     let moves: [u8; TREE_MOVES] = array::from_fn(|place| {
-        if place % 65 == 0 {
-            next_of(place / 65, 62)
+        let upper = place / STATES;
+        let lower = place % STATES;
+        if lower == upper {
+            next_of(upper, 62)
         } else {
             Rule::NONE
         }

@@ -1,13 +1,12 @@
 // A move that is not there: which of the three it is, after 8 and 9, and not where an event is passed over.
-use crate::rules::{rule_b, rule_of_none};
+use crate::rules::{RULE_B, RULE_OF_NONE};
 use crate::stores::{Case, ENOUGH, at_depth};
 use meaning::Level;
 use std::io;
 
 // One event read in full where the rule has no move at all, over one level.
 fn one_event(rt: &impl Print) -> io::Result<()> {
-    let file = rule_of_none();
-    let top = Case::opened(&file, &[0; 4]);
+    let top = Case::opened(&RULE_OF_NONE, &[0; 4]);
     let inside = Case {
         reading: at_depth(1),
         ..top
@@ -66,23 +65,21 @@ fn one_event(rt: &impl Print) -> io::Result<()> {
 
 pub fn moves(rt: &impl Print) -> io::Result<()> {
     one_event(rt)?;
-    let none = rule_of_none();
-    let b = rule_b();
     let cases = [
         Case {
             name: "no move, passed over",
             events: &[0, 2, 1, 2],
-            ..Case::opened(&none, &[7; 4])
+            ..Case::opened(&RULE_OF_NONE, &[7; 4])
         },
         Case {
             name: "B2 by skipping",
             events: &[0, 1],
-            ..Case::opened(&b, &[4, 7, 7, 7])
+            ..Case::opened(&RULE_B, &[4, 7, 7, 7])
         },
         Case {
             name: "B2 in full",
             events: &[0, 1],
-            ..Case::opened(&b, &[0; 4])
+            ..Case::opened(&RULE_B, &[0; 4])
         },
     ];
     for case in cases {

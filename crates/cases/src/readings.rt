@@ -1,18 +1,17 @@
 // Readings that are none, and the limits of a reading: numbers 6, 13, 16 and 12.
 use crate::lines;
-use crate::rules::rule_a;
+use crate::rules::RULE_A;
 use crate::stores::{Case, ENOUGH, at_depth, reading_and_book};
 use meaning::{Level, Reading};
 use std::io;
 
 // One event fed to a reading, by some book, over levels with a state above them.
 fn feedings(rt: &impl Print) -> io::Result<()> {
-    let file = rule_a();
-    let (fresh, book) = reading_and_book(&file);
+    let (fresh, book) = reading_and_book(&RULE_A);
     let one = Case {
         name: "a fresh reading",
         events: &[2],
-        ..Case::opened(&file, &book)
+        ..Case::opened(&RULE_A, &book)
     };
     let short = Case {
         name: "a book too short to read with",
@@ -90,8 +89,7 @@ fn feedings(rt: &impl Print) -> io::Result<()> {
 
 // Ends, over levels of which the second was opened at another place than the rest.
 fn finishings(rt: &impl Print) -> io::Result<()> {
-    let file = rule_a();
-    let (fresh, book) = reading_and_book(&file);
+    let (fresh, book) = reading_and_book(&RULE_A);
     let mut levels = [Level {
         opened: 9,
         ..Level::default()
@@ -115,7 +113,7 @@ fn finishings(rt: &impl Print) -> io::Result<()> {
         ("an end", last),
     ];
     for (name, reading) in ends {
-        let end = reading::finish_array(&file, &book, reading, levels);
+        let end = reading::finish_array(&RULE_A, &book, reading, levels);
         lines::end(rt, name, end, reading.looks)?;
     }
     Ok(())

@@ -81,22 +81,28 @@ pub fn carry(front: &[u8], block: &mut [u8]) -> usize
 
 impl Both {
     // The events of a block are fed to both readings.
-    fn feed(&mut self, file: &[u8], book: &[u64], block: &[u8])
-        ensures skip_fed { length block.now ≤ block_length → pass_says self.new.skip ≡ fed_on file.now book.now (pass_says self.old.skip) (events_in block.now) }
-        ensures full_fed { length block.now ≤ block_length → pass_says self.new.full ≡ fed_on file.now zero_book (pass_says self.old.full) (events_in block.now) }
+    fn feed(&mut self, document: Document<'_>, block: &[u8])
+        ensures skip_fed { length block.now ≤ block_length → pass_says self.new.skip ≡ fed_on document.entry.file.now document.entry.book.now (pass_says self.old.skip) (events_in block.now) }
+        ensures full_fed { length block.now ≤ block_length → pass_says self.new.full ≡ fed_on document.entry.file.now zero_book (pass_says self.old.full) (events_in block.now) }
     {
         let mut events = [0u16; EVENTS];
         let count = input::decode(block, &mut events);
-        self.skip.go_on(file, book, &events[..count]);
-        self.full.go_on(file, &zeros(), &events[..count]);
+        self.skip
+            .go_on(document.file, document.book, &events[..count]);
+        self.full.go_on(document.file, &zeros(), &events[..count]);
     }
 
     // The two lines.
-    fn lines(&self, file: &[u8], book: &[u64]) -> Text
-        ensures { result ≡ both_lines file.now book.now (pass_says self.now.skip) (pass_says self.now.full) }
+    fn lines(&self, document: Document<'_>) -> Text
+        ensures { result ≡ both_lines document.entry.file.now document.entry.book.now (pass_says self.now.skip) (pass_says self.now.full) }
     {
         let mut text = Text::empty();
-        text.line(b"skip", self.skip.end_of(file, book), self.skip.reading);
+        let file = document.file;
+        text.line(
+            b"skip",
+            self.skip.end_of(file, document.book),
+            self.skip.reading,
+        );
         text.line(b"full", self.full.end_of(file, &zeros()), self.full.reading);
         text
     }
@@ -130,7 +136,7 @@ impl Document<'_> {
             .and_then(|before| before.checked_add(block.len()))
             .filter(|after| *after <= self.size as usize);
         if body.taken.is_some() {
-            body.both.feed(self.file, self.book, block);
+            body.both.feed(self, block);
         }
     }
 
@@ -143,7 +149,7 @@ impl Document<'_> {
         match body.taken {
             None => refused_text(Reason::BytesAfter.at(start + whole)),
             Some(taken) if taken < whole => refused_text(Reason::CutShort.at(start + taken)),
-            Some(_) => body.both.lines(self.file, self.book),
+            Some(_) => body.both.lines(self),
         }
     }
 }

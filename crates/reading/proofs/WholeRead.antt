@@ -22,7 +22,7 @@ use Rattle.meaning.proofs.stores.Whole.{whole-refused, whole-opened, whole-feeds
 use Rattle.rule.specs.declared.Rule.{Rule}
 use Rattle.rule.specs.Says.{RuleOf}
 use Rattle.turning.specs.Turns.{Feeds, over}
-use Rattle.turning.specs.Advancing.{Gone}
+use Rattle.turning.specs.Advancing.{ended_at, Gone}
 use Rattle.turning.specs.declared.Going.{Going}
 use Rattle.turning.proofs.Steps.{turn-ready}
 use Rattle.turning.proofs.Turned.{states-are}
@@ -70,18 +70,18 @@ module _ (file book : List ℕ) (store : List Level) (events : List ℕ) where
     module _ {g : Going} {room : ℕ} {store' : List Level}
         (gone : Gone (read_all file (opened_book file book) o.reading store events) o.reading room g store') where
       document-is : (r : Result Judgement Refusal)
-          → end_says r ≡ (says g.ended giving λ done. end_of (rule_of file) g.reading (top_of g.reading store'))
+          → end_says r ≡ (says (ended_at g) giving λ done. end_of (rule_of file) g.reading (top_of g.reading store'))
           → ReadIs (whole_document file book store events) r (opened_book file book) store'
       unfolding end_fed
       document-is r e = rw whole-read (record { answer_is = rw gone.comes e; book_is = refl; store_is = rw gone.comes })
 
       -- an event was refused
-      pub document-stops : (f : Refusal) → g.ended ≡ Err f
+      pub document-stops : (f : Refusal) → ended_at g ≡ Err f
           → ReadIs (whole_document file book store events) (Err f) (opened_book file book) store'
       unfolding end_says refusal_says says ◌giving◌
       document-stops f e = document-is (Err f) (rw e)
 
-      module _ (all : g.ended ≡ Ok tt) where
+      module _ (all : ended_at g ≡ Ok tt) where
         -- all were taken, and the reading may be ended
         pub document-state : g.reading.state < rule.states
         document-state =

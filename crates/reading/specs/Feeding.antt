@@ -5,6 +5,7 @@ use Rattle.meaning.specs.Calls.{Stored, events_taken, says}
 use Rattle.meaning.specs.declared.Fed.{Fed}
 use Rattle.meaning.specs.declared.Level.{Level}
 use Rattle.meaning.specs.declared.Reading.{Reading}
+use Rattle.turning.specs.Advancing.{ended_at}
 use Rattle.turning.specs.declared.Going.{Going}
 
 -- what feeding answers and leaves: the reading and the store after the events it took, how it ended, and how many it took
@@ -16,4 +17,4 @@ pub record FedIs (w : Went Stored) (before : Reading) (r : Fed) (store : List Le
 
 -- the answer, from where feeding began and where it ended
 unfoldable pub fed_of : Reading → Going → Fed
-fed_of before g = record { taken = g.reading.taken - before.taken; reading = g.reading; ended = g.ended }
+fed_of before g = record { taken = g.reading.taken - before.taken; reading = g.reading; ended = ended_at g }

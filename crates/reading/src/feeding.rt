@@ -14,7 +14,7 @@ use rule::CheckedRule;
 use turning::{Going, Standing};
 
 // All events, turn by turn, until none is left. What a turn stores is laid in the level store, and what the next one reads is
-// read from it.
+// read from it. A turn may take many events, so this is no `for` over them.
 pub fn feed_loop(
     rule: CheckedRule,
     book: &[u64],
@@ -52,6 +52,6 @@ pub fn fed_of(before: Reading, going: Going) -> Fed
     Fed {
         taken: going.reading.taken - before.taken,
         reading: going.reading,
-        ended: going.ended,
+        ended: going.end(),
     }
 }

@@ -126,6 +126,6 @@ pub fn read_document(
     let rule = CheckedRule::of_file(file)?;
     let first = open_rule(rule, &mut *book)?.reading;
     let last = feed_loop(rule, &*book, LARGEST_CEILING, first, &mut *levels, events);
-    last.ended?;
+    last.end()?;
     end_of(rule, last.reading, top_of(last.reading, &*levels))
 }

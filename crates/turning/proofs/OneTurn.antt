@@ -8,14 +8,14 @@ use native.Mathlib.Numerals.{add-one}
 use native.Mathlib.Omega.{arith}
 use lib.ListN.{length, get_or, drop, drop_of_length-le, length-set}
 use lib.Seq.{drop-cons}
-use Rattle.meaning.specs.Answers.{Answer, given}
+use Rattle.meaning.specs.Answers.{Answer, given, refused}
 use Rattle.meaning.specs.RuleFile.{rule_of}
 use Rattle.meaning.specs.FullReading.{Went, feed_by}
 use Rattle.meaning.specs.Skipping.{held, settled}
-use Rattle.meaning.specs.Calls.{Stored, top_of, store_step, refusal_says, says}
+use Rattle.meaning.specs.Calls.{Stored, top_of, store_step, number_of, refusal_says, says}
 use Rattle.meaning.specs.declared.Level.{Level}
 use Rattle.meaning.specs.declared.Reading.{Reading}
-use Rattle.meaning.specs.declared.Refusal.{Refusal}
+use Rattle.meaning.specs.declared.reason.Reason.{Reason}
 use Rattle.meaning.proofs.rulefile.Accepted.{accepted-is-rule}
 use Rattle.meaning.proofs.laws.FeedLaws.{feed-taken, feed-refused, feed-none}
 use Rattle.meaning.proofs.stores.KeptReading.{IsReading, reading-is, event-keeps-reading}
@@ -23,7 +23,7 @@ use Rattle.rule.specs.declared.Rule.{Rule}
 use Rattle.turning.specs.Readings.{StatesIn, Counted}
 use Rattle.turning.specs.Turns.{Ready, Stands, Feeds, over}
 use Rattle.turning.specs.PassingOver.{passed_on, PassesOver}
-use Rattle.turning.specs.Advancing.{rest_of, rest, stored, CanGoOn, Advances, Gone}
+use Rattle.turning.specs.Advancing.{placed, ended_at, rest_of, rest, stored, CanGoOn, Advances, Gone}
 use Rattle.turning.specs.declared.Advance.{Advance}
 use Rattle.turning.specs.declared.Entry.{Entry}
 use Rattle.turning.specs.declared.Going.{Going}
@@ -122,11 +122,11 @@ module _ {file : List ℕ} {rule : Rule} {book : List ℕ} (ceiling : ℕ) {r : 
       }
 
   -- the event is refused
-  pub refuses : (f : Refusal) → store_step (rule_of file) book ceiling before event ≡ refusal_says f → stored stores store ≡ store
+  pub refuses : (reason : Reason) → store_step (rule_of file) book ceiling before event ≡ refused (number_of reason) r.taken → stored stores store ≡ store
       → Advances file rule book ceiling store r events next
-      (record { going = record { reading = r; next = length events; ended = Err f }; stores = stores })
-  unfolding rest_of rest refusal_says
-  refuses f said laid =
+      (record { going = record { reading = r; next = length events; ended = Err reason }; stores = stores })
+  unfolding rest_of rest
+  refuses reason said laid =
       record {
         further = inside;
         more = omega arith;
@@ -164,10 +164,11 @@ passes_on {file} {rule} {book} ceiling {r} {store} h events o a =
 
 -- ---- turn by turn
 
-rest_of-none : (x : Result Unit Refusal) (step : Stored → ℕ → Answer Stored) (s : Stored) → rest_of x s (feed_by step s []) ≡ record { last = s; ended = says x }
-unfolding rest_of says
+rest_of-none : (x : Result Unit Reason) (step : Stored → ℕ → Answer Stored) (s : Stored)
+    → rest_of x s (feed_by step s []) ≡ record { last = s; ended = says (placed x s.reading.taken) }
+unfolding rest_of says placed refusal_says
 rest_of-none (Ok u) step s = feed-none step s
-rest_of-none (Err f) step s = refl
+rest_of-none (Err reason) step s = refl
 
 -- storing keeps the store's length
 stored-length : (stores : Option Entry) (store : List Level) → length (stored stores store) ≡ length store
@@ -211,7 +212,7 @@ module _ (file : List ℕ) (rule : Rule) (book : List ℕ) (ceiling : ℕ) (even
 
     -- no event is left
     pub underway-ends : length events ≤ g.next → Gone all start.reading (length store₀) g store
-    unfolding rest
+    unfolding rest ended_at
     underway-ends none =
         record {
           comes = sym u.comes ∙ rw (drop_of_length-le events none) (rest_of-none g.ended _ _);

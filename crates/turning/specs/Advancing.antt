@@ -3,22 +3,32 @@
 use Rattle.std.specs.Prelude.{ℕ, ◌≤◌, ◌<◌, ◌≡◌, List, length, drop, set, Option, Some, None, Result, Ok, Err}
 use Rattle.meaning.specs.RuleFile as format
 use Rattle.meaning.specs.RuleFile.{rule_of}
+use Rattle.meaning.specs.Answers.{refused}
 use Rattle.meaning.specs.FullReading.{Went, feed_by}
-use Rattle.meaning.specs.Calls.{Stored, refusal_says, store_step}
-use Rattle.meaning.specs.Calls.{says}
+use Rattle.meaning.specs.Calls.{Stored, number_of, says, store_step}
 use Rattle.meaning.specs.declared.Level.{Level}
 use Rattle.meaning.specs.declared.Reading.{Reading}
 use Rattle.meaning.specs.declared.Refusal.{Refusal}
+use Rattle.meaning.specs.declared.reason.Reason.{Reason}
 use Rattle.rule.specs.declared.Rule.{Rule}
 use Rattle.turning.specs.Turns.{Feeds, over}
+use Rattle.turning.specs.declared.Standing.{Standing}
 use Rattle.turning.specs.declared.Going.{Going}
 use Rattle.turning.specs.declared.Entry.{Entry}
 use Rattle.turning.specs.declared.Advance.{Advance}
 
+-- how feeding ended: the place of a refused event is the count of events taken
+unfoldable pub placed : Result Unit Reason → ℕ → Result Unit Refusal
+placed (Ok u) taken = Ok u
+placed (Err reason) taken = Err (record { number = number_of reason; place = taken })
+
+unfoldable pub ended_at : Going → Result Unit Refusal
+ended_at g = placed g.ended g.reading.taken
+
 -- what is left to come: what feeding the other events comes to, or the refusal
-unfoldable pub rest_of : Result Unit Refusal → Stored → Went Stored → Went Stored
+unfoldable pub rest_of : Result Unit Reason → Stored → Went Stored → Went Stored
 rest_of (Ok u) s w = w
-rest_of (Err f) s w = record { last = s; ended = refusal_says f }
+rest_of (Err reason) s w = record { last = s; ended = refused (number_of reason) s.reading.taken }
 
 unfoldable pub rest : format.Rule → List ℕ → ℕ → List Level → List ℕ → Going → Went Stored
 rest R book ceiling store events g =
@@ -44,8 +54,15 @@ pub record Advances (file : List ℕ) (rule : Rule) (book : List ℕ) (ceiling :
   pub comes : rest (rule_of file) book ceiling (stored a.stores store) events a.going
       ≡ feed_by (store_step (rule_of file) book ceiling) (over r store) (drop next events)
 
+-- the same, of what an event is judged by
+abbrev pub FeedsBy : List ℕ → Standing → List Level → Type 0
+FeedsBy book s store = Feeds s.rule.file.now s.rule.rule book s.reading store
+
+abbrev pub AdvancesBy : List ℕ → Standing → List Level → List ℕ → ℕ → Advance → Type 0
+AdvancesBy book s store events next a = Advances s.rule.file.now s.rule.rule book s.ceiling store s.reading events next a
+
 -- all turns: feeding has come to its end
 pub record Gone (w : Went Stored) (before : Reading) (room : ℕ) (g : Going) (store : List Level) : Type 0 where
-  pub comes : w ≡ record { last = over g.reading store; ended = says g.ended }
+  pub comes : w ≡ record { last = over g.reading store; ended = says (ended_at g) }
   pub more : before.taken ≤ g.reading.taken
   pub same_room : length store ≡ room

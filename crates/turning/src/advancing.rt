@@ -1,8 +1,8 @@
 // One turn of feeding, by value: what is passed over on a settled level, and then one event.
 ghost use Rattle.std.specs.Prelude.{◌≡◌, ℕ, ◌-◌, ◌<◌, List, length};
 ghost use Rattle.meaning.specs.Calls.{top_of};
-ghost use Rattle.turning.specs.Turns.{Stands, Feeds};
-ghost use Rattle.turning.specs.Advancing.{Advances};
+ghost use Rattle.turning.specs.Turns.{Stands};
+ghost use Rattle.turning.specs.Advancing.{FeedsBy, AdvancesBy};
 
 use crate::passing::pass_settled;
 use crate::settling::Settled;
@@ -20,7 +20,7 @@ impl<'a> Standing<'a> {
     // One event: what its turn says becomes of the reading, and of the store.
     fn take_event(&self, settled: Settled, events: &[u16], next: usize) -> Advance
         requires { next < length events.now }
-        ensures { (book : List ℕ) (store : List Level) → Stands book self.now.reading self.now.top settled → Feeds self.now.rule.file.now self.now.rule.rule book self.now.reading store → top_of self.now.reading store ≡ self.now.top → length store ≡ self.now.room → Advances self.now.rule.file.now self.now.rule.rule book self.now.ceiling store self.now.reading events.now next result }
+        ensures { (book : List ℕ) (store : List Level) → Stands book self.now.reading self.now.top settled → FeedsBy book self.now store → top_of self.now.reading store ≡ self.now.top → length store ≡ self.now.room → AdvancesBy book self.now store events.now next result }
     {
         match self.skip_event(settled, events[next]) {
             Ok(Turn::Stays(after)) => Advance::storing_none(after, next + 1),
@@ -36,7 +36,7 @@ impl<'a> Standing<'a> {
                 going: Going {
                     reading: self.reading,
                     next: events.len(),
-                    ended: Err(reason.at(self.reading.taken as usize)),
+                    ended: Err(reason),
                 },
                 stores: None,
             },
@@ -48,7 +48,7 @@ impl<'a> Standing<'a> {
     pub fn advance(&self, book: &[u64], events: &[u16], next: usize) -> Advance
         requires book_long { self.now.rule.rule.states < length book.now }
         requires event_left { next < length events.now }
-        ensures { (store : List Level) → Feeds self.now.rule.file.now self.now.rule.rule book.now self.now.reading store → top_of self.now.reading store ≡ self.now.top → length store ≡ self.now.room → Advances self.now.rule.file.now self.now.rule.rule book.now self.now.ceiling store self.now.reading events.now next result }
+        ensures { (store : List Level) → FeedsBy book.now self.now store → top_of self.now.reading store ≡ self.now.top → length store ≡ self.now.room → AdvancesBy book.now self.now store events.now next result }
     {
         let settled = Settled::of(book, self.reading, self.top);
         let passed = pass_settled(

@@ -6,13 +6,8 @@ ghost use Rattle.turning.specs.Readings.{Counted};
 ghost use Rattle.turning.specs.PassingOver.{CountsOf, no_event, one_more, joined, Short, DepthsOf, AllPassed, PassedIn, PassesOver};
 
 use crate::PassedTo;
-use crate::turns::MOST_EVENTS;
+use crate::turns::{CLOSE, MOST_EVENTS, OPEN};
 use meaning::{Level, Reading};
-
-// The events that open and close a tree; those above are letters.
-const OPEN: u16 = 0;
-
-const CLOSE: u16 = 1;
 
 // How many events are looked at together, and how many are looked at one by one before that: a short part is over by then.
 const BLOCK: usize = 256;

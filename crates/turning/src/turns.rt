@@ -17,6 +17,11 @@ use rule::tables::Table;
 // The most events that a reading takes.
 pub const MOST_EVENTS: u32 = 4294967295;
 
+// The events that open and close a tree; those above are letters.
+pub(crate) const OPEN: u16 = 0;
+
+pub(crate) const CLOSE: u16 = 1;
+
 impl<'a> Standing<'a> {
     // An event: the event limit and the known letters, and then what the settled level or full reading makes of it.
     pub fn skip_event(&self, settled: Settled, event: u16) -> Result<Turn, Reason>
@@ -132,8 +137,8 @@ impl<'a> Taking<'a> {
         ensures { turn_says self.now.standing.reading result ≡ full_by self.now.standing (event_of event) }
     {
         match event {
-            0 => self.full_open(),
-            1 => self.full_close(),
+            OPEN => self.full_open(),
+            CLOSE => self.full_close(),
             _ => self.full_letter(event - 2),
         }
     }
@@ -160,15 +165,15 @@ impl<'a> Taking<'a> {
     {
         let reading = self.standing.reading;
         match event {
-            0 => Ok(Turn::Stays(Reading {
+            OPEN => Ok(Turn::Stays(Reading {
                 skip: reading.skip + 1,
                 ..self.taken()
             })),
-            1 if 0 < reading.skip => Ok(Turn::Stays(Reading {
+            CLOSE if 0 < reading.skip => Ok(Turn::Stays(Reading {
                 skip: reading.skip - 1,
                 ..self.taken()
             })),
-            1 => self.ends_level(settled),
+            CLOSE => self.ends_level(settled),
             _ => Ok(Turn::Stays(self.taken())),
         }
     }

@@ -1,4 +1,5 @@
 -- Each step that refuses ends the call with its refusal, and where none does, the end is the definition's.
+use Rattle.std.proofs.Common.{sym, ◌∙◌}
 use Rattle.std.proofs.lemmas.Result.{err_from_is_err_and}
 use Rattle.meaning.proofs.laws.Handed.{was-given, was-refused}
 use Rattle.reading.proofs.Checks.{unchecked-opens, unchecked-stays}
@@ -28,21 +29,21 @@ feed_loop-last-requires c =
     rw c.open_rule.ensures.book_after
     (opened-feeds file c.args.book.now c.args.levels.now c.args.events.now (was-given c.in_ok-first.ensures.answer) c.in_ok-rule.rule.accepted)
 
-pub returns-in_err-last : goal.returns-in_err-last
-returns-in_err-last c =
+pub returns-in_err-end : goal.returns-in_err-end
+returns-in_err-end c =
     let file = c.in_ok-rule.rule.file.now in
     let gone = rw c.open_rule.ensures.book_after at c.feed_loop-last.ensures in
-    let p = err_from_is_err_and c.from_residual-in_err-last.result c.from_residual-in_err-last.ensures.1 in
+    let p = err_from_is_err_and c.from_residual-in_err-end.result c.from_residual-in_err-end.ensures.1 in
     rw (p.1, p.2, ← c.in_ok-rule.ensures.accepts.0, c.open_rule.ensures.book_after)
     (document-stops file c.args.book.now c.args.levels.now c.args.events.now (was-given c.in_ok-first.ensures.answer) c.in_ok-rule.rule.accepted
-    gone _ c.in_err-last.was)
+    gone _ (sym c.end.ensures ∙ c.in_err-end.was))
 
 pub end_of-requires : goal.end_of-requires
 end_of-requires c =
     let file = c.in_ok-rule.rule.file.now in
     let gone = rw c.open_rule.ensures.book_after at c.feed_loop-last.ensures in
     document-state file c.args.book.now c.args.levels.now c.args.events.now (was-given c.in_ok-first.ensures.answer) c.in_ok-rule.rule.accepted
-    gone c.in_ok-last.was
+    gone (sym c.end.ensures ∙ c.in_ok-end.was)
 
 pub returns : goal.returns
 returns c =
@@ -50,4 +51,4 @@ returns c =
     let gone = rw c.open_rule.ensures.book_after at c.feed_loop-last.ensures in
     rw (← c.in_ok-rule.ensures.accepts.0, c.open_rule.ensures.book_after)
     (document-ends file c.args.book.now c.args.levels.now c.args.events.now (was-given c.in_ok-first.ensures.answer) c.in_ok-rule.rule.accepted
-    gone c.in_ok-last.was (rw c.top_of.ensures at c.end_of.ensures))
+    gone (sym c.end.ensures ∙ c.in_ok-end.was) (rw c.top_of.ensures at c.end_of.ensures))

@@ -1,11 +1,7 @@
 -- The word stands for the states that the letters walked so far lead to.
-use Rattle.std.proofs.Common.{◌≤◌, ◌-◌}
 use Rattle.meaning.specs.RuleFile.{letter_move, rule_of}
 use Rattle.book.proofs.Walked.{Walked}
 use Rattle.book.proofs.moves.by_letters.Given as goal
 
 abbrev pub invariant-loop-letter : goal.invariant-loop-letter
-invariant-loop-letter l = record { within : l.letter ≤ l.rule.rule.letters; walked : Walked (letter_move (rule_of l.rule.file.now) l.state) l.letter l.set }
-
-abbrev pub decreases-loop-letter : goal.decreases-loop-letter
-decreases-loop-letter l = l.rule.rule.letters - l.letter
+invariant-loop-letter l = Walked (letter_move (rule_of l.rule.file.now) l.state) l.letter l.set

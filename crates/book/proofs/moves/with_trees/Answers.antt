@@ -1,11 +1,18 @@
-use Rattle.std.proofs.Common.{arith}
-use Rattle.book.specs.Sets.{WithTrees}
+use Rattle.std.proofs.Common.{◌≤◌, arith, rules}
+use Rattle.std.proofs.iter.Serving.{serving}
+use Rattle.book.specs.Sets.{StandsFor, WithTrees}
+use Rattle.book.proofs.Standing.{stands-or, stands-itself}
 use Rattle.book.proofs.Walked.{few-states, states-are}
 use Rattle.book.proofs.moves.with_trees.Goals as goal
 
 pub table_of-requires-clause-few_states : goal.table_of-requires-clause-few_states
 table_of-requires-clause-few_states c = few-states c.args.rule.accepted
 
+pub table_of-requires-clause-callable : goal.table_of-requires-clause-callable
+table_of-requires-clause-callable c =
+    let few : c.args.rule.rule.states ≤ 64 = few-states c.args.rule.accepted in grind serving
+
 pub returns : goal.returns
-unfolding WithTrees
-returns c q h = c.table_of.ensures.each q (omega (arith, states-are c.args.rule.accepted))
+unfolding WithTrees StandsFor
+returns c q h =
+    let each = c.table_of.ensures.each q (omega (arith, states-are c.args.rule.accepted)) in search (rules, stands-or, stands-itself)

@@ -1,7 +1,7 @@
 -- Each turn leaves what the definition's step leaves, with its record laid where it says.
 use Rattle.std.proofs.Common.{refl, sym, ◌∙◌}
 use Rattle.meaning.specs.Answers.{◌giving◌}
-use Rattle.meaning.specs.Calls.{refusal_says, stored_after}
+use Rattle.meaning.specs.Calls.{stored_after}
 use Rattle.turning.specs.Turns.{turn_says, turn_of}
 use Rattle.turning.specs.Advancing.{stored}
 use Rattle.turning.proofs.Steps.{step_of}
@@ -33,8 +33,8 @@ returns-in-Ok-Ends c =
     (step_of _ _ _ _ _ _ _ (sym room) (sym top) (c.skip_event.ensures book stands) ∙ rw (c.in-Ok-Ends.is, c.in-Ok-Ends.field-0-is)) refl)
 
 pub returns-in-Err : goal.returns-in-Err
-unfolding turn_says turn_of ◌giving◌ stored_after refusal_says stored
+unfolding turn_says ◌giving◌ stored
 returns-in-Err c =
     λ book store stands h top room.
-    rw (c.at.ensures.number, c.at.ensures.place) (refuses _ h _ c.requires _ _
-    (step_of _ _ _ _ _ _ _ (sym room) (sym top) (c.skip_event.ensures book stands) ∙ rw c.in-Err.is) refl)
+    refuses _ h _ c.requires _ _
+    (step_of _ _ _ _ _ _ _ (sym room) (sym top) (c.skip_event.ensures book stands) ∙ rw c.in-Err.is) refl

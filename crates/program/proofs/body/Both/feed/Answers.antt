@@ -11,7 +11,7 @@ returns-clause-skip_fed c =
     let d = c.decode-count in
     λ short.
     c.go_on.ensures
-    ∙ ap (fed_on a.file.now a.book.now (pass_says a.self.now.skip))
+    ∙ ap (fed_on a.document.file.now a.document.book.now (pass_says a.self.now.skip))
     (ap (take d.result) d.ensures.events ∙ decoded-front a.block.now (replicate 32768 0) d.result short refl d.ensures.count)
 
 pub returns-clause-full_fed : goal.returns-clause-full_fed
@@ -20,6 +20,6 @@ returns-clause-full_fed c =
     let d = c.decode-count in
     λ short.
     c.go_on-2.ensures
-    ∙ (ap (λ b. fed_on a.file.now b (pass_says a.self.now.full) (take d.result d.new.events)) c.zeros.ensures.zeros
-    ∙ ap (fed_on a.file.now zero_book (pass_says a.self.now.full))
+    ∙ (ap (λ b. fed_on a.document.file.now b (pass_says a.self.now.full) (take d.result d.new.events)) c.zeros.ensures.zeros
+    ∙ ap (fed_on a.document.file.now zero_book (pass_says a.self.now.full))
     (ap (take d.result) d.ensures.events ∙ decoded-front a.block.now (replicate 32768 0) d.result short refl d.ensures.count))

@@ -13,8 +13,8 @@ use Rattle.program.proofs.body.Both.lines.Goals as goal
 pub returns : goal.returns
 unfolding both_lines fed_line line_says line_of line_from pass_says skip_word full_word
 returns c =
-    let file = c.args.file.now in
-    let book = c.args.book.now in
+    let file = c.args.document.file.now in
+    let book = c.args.document.book.now in
     let both = c.args.self.now in
     let skip : line_says c.end_of.result both.skip.reading ≡ fed_line file book (pass_says both.skip)
     = ap (λ x. x giving line_of both.skip.reading) c.end_of.ensures in

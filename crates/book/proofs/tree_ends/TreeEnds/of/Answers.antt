@@ -1,9 +1,12 @@
 -- Where a round changes nothing, word and table are those of all rounds after it.
-use Rattle.std.proofs.Common.{arith, add-one}
+use Rattle.std.proofs.Common.{◌≡◌, arith, add-one}
+use Rattle.meaning.specs.RuleFile.{rule_of}
 use Rattle.meaning.proofs.rulefile.Accepted.{accepted-is-rule}
-use Rattle.book.proofs.Walked.{states-are, start-goes}
+use Rattle.book.specs.Sets.{EndsFound}
+use Rattle.book.proofs.Walked.{few-states, states-are, start-goes}
 use Rattle.book.proofs.EndSet.{first-end-word, first-states, first_found, next-end-word, added-states, next-found, rest-found}
-use Rattle.book.proofs.rounds.tree_ends.Goals as goal
+use Rattle.book.proofs.tree_ends.TreeEnds.of.Goals.{else-loop-round-test, then-loop-round-test+then-next-set}
+use Rattle.book.proofs.tree_ends.TreeEnds.of.Goals as goal
 
 pub with_trees-moves-requires : goal.with_trees-moves-requires
 with_trees-moves-requires c =
@@ -19,13 +22,6 @@ loop-round-init c =
     let first = first-end-word _ rule set (omega arith) (start-goes c.args.rule.accepted set c.tree_start.ensures c.target-set.ensures) in
     first_found _ rule _ first _ _ c.letter_moves-letters.ensures c.with_trees-moves.ensures
 
-pub returns-then-next-set : goal.returns-then-next-set
-returns-then-next-set c =
-    let rule = accepted-is-rule _ c.args.rule.accepted.accepted in
-    let loop = c.loop-round in
-    let next = next-end-word _ rule loop._round _ _ loop.invariant c.with_members-next.result (omega arith) c.with_members-next.ensures in
-    rest-found _ rule loop._round loop.set loop.moves loop.invariant _ next c.if-next-set.true 63 (omega arith)
-
 pub with_trees-moves-requires-in-loop-round : goal.with_trees-moves-requires-in-loop-round
 with_trees-moves-requires-in-loop-round c =
     let rule = accepted-is-rule _ c.args.rule.accepted.accepted in
@@ -40,3 +36,18 @@ loop-round-preserved c =
     let next = next-end-word _ rule loop._round _ _ loop.invariant c.with_members-next.result (omega arith) c.with_members-next.ensures in
     let more = next-found _ rule loop._round loop.set loop.moves loop.invariant _ next _ c.with_trees-moves-in-loop-round.ensures in
     rw (add-one loop._round) more
+
+pub invariant_of-result : goal.invariant_of-result
+invariant_of-result c =
+    let accepted = c.args.rule.accepted in
+    let rule = accepted-is-rule _ accepted.accepted in
+    let loop = c.loop-round in
+    let found : EndsFound (rule_of c.args.rule.file.now) 63 loop.set loop.moves =
+    elim c.loop-round-test.branch [
+      | else-loop-round-test w ↦
+          let last : loop._round ≡ 63 = omega arith in rw last at loop.invariant
+      | then-loop-round-test+then-next-set w ↦
+          let next = next-end-word _ rule loop._round _ _ loop.invariant w.with_members-next.result (omega arith) w.with_members-next.ensures in
+          rest-found _ rule loop._round loop.set loop.moves loop.invariant _ next w.if-next-set.true 63 (omega arith)
+    ] in
+    record { few_states = few-states accepted; found = found }
