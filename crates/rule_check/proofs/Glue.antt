@@ -18,6 +18,7 @@ use Rattle.meaning.specs.CheckProgram.{EventsAt, front_length, front_check}
 use Rattle.meaning.proofs.rulefile.Accepted.{accepted-rule}
 use Rattle.meaning.proofs.program.Fifth.{found, fifth-file, header-says, front-join, front-more}
 use Rattle.program.specs.declared.body.Body.{Body}
+use Rattle.program.specs.declared.body.Document.{Document}
 use Rattle.program.specs.Bodies.{block_length, program_book, Took, HasRead}
 use Rattle.rule_check.specs.BlockRead.{TookMore, left}
 
@@ -30,15 +31,15 @@ filled there count block after h stays =
     ap (λ l. l ++ drop there (take count after)) (sym stays ∙ sym (take-take there count after h))
     ∙ take-append-drop there (take count after)
 
-pub went-block : (file book : List ℕ) (size : ℕ) (before : Body) (there count : ℕ) (block after : List ℕ) (old new : Option (List ℕ)) (body : Body) (more : Bool)
+pub went-block : (document : Document) (before : Body) (there count : ℕ) (block after : List ℕ) (old new : Option (List ℕ)) (body : Body) (more : Bool)
     → there ≤ count → count ≤ length after → length after ≡ block_length → take there after ≡ take there block
     → Consumes old new (drop there (take count after))
-    → ((bytes : List ℕ) → Took file book size before bytes → length bytes % 2 ≡ 0 → length (take count after) ≤ block_length
-    → Took file book size body (bytes ++ take count after))
+    → ((bytes : List ℕ) → Took document.file.now document.book.now document.size before bytes → length bytes % 2 ≡ 0 → length (take count after) ≤ block_length
+    → Took document.file.now document.book.now document.size body (bytes ++ take count after))
     → (more ≡ true → count ≡ block_length)
     → (more ≡ false → IsSome body.taken → IsAtEnd new)
-    → TookMore file book size before (take there block) old new body more
-went-block file book size before there count block after old new body more h within room stays gave took full end =
+    → TookMore document before (take there block) old new body more
+went-block document before there count block after old new body more h within room stays gave took full end =
     let all : take there block ++ drop there (take count after) ≡ take count after = filled there count block after h stays in
     let counted : length (take count after) ≡ count = length-take-le count after within in
     record {
@@ -58,10 +59,10 @@ short-block count most full room within = omega arith
 even_sum : (a b : ℕ) → a % 2 ≡ 0 → b % 2 ≡ 0 → (a + b) % 2 ≡ 0
 even_sum a b h k = omega arith
 
-pub went_on : (file book : List ℕ) (size : ℕ) (before : Body) (there : List ℕ) (start old new : Option (List ℕ)) (first body : Body) (more : Bool)
-    → TookMore file book size before there start old first true → TookMore file book size first [] old new body more
-    → TookMore file book size before there start new body more
-went_on file book size before there start old new first body more one two =
+pub went_on : (document : Document) (before : Body) (there : List ℕ) (start old new : Option (List ℕ)) (first body : Body) (more : Bool)
+    → TookMore document before there start old first true → TookMore document first [] old new body more
+    → TookMore document before there start new body more
+went_on document before there start old new first body more one two =
     let both : (there ++ one.new) ++ two.new ≡ there ++ (one.new ++ two.new) = append_assoc there one.new two.new in
     let first_even : length (there ++ one.new) % 2 ≡ 0 = one.even refl in
     record {
@@ -89,10 +90,10 @@ fewer-left false size part (Some b) taken w h = omega arith
 fewer-left false size part None taken w h = omega arith
 
 -- from the first byte on
-pub took-all : (file book : List ℕ) (size : ℕ) (before : Body) (there part : List ℕ) (old new : Option (List ℕ)) (body : Body) (more : Bool) → there ≡ part
-    → Took file book size before [] → (w : TookMore file book size before there old new body more) → Took file book size body (part ++ w.new)
-took-all file book size before there part old new body more e t w =
-    subst (λ (l : List ℕ). Took file book size body (l ++ w.new)) e (w.took [] t refl)
+pub took-all : (document : Document) (before : Body) (there part : List ℕ) (old new : Option (List ℕ)) (body : Body) (more : Bool) → there ≡ part
+    → Took document.file.now document.book.now document.size before [] → (w : TookMore document before there old new body more) → Took document.file.now document.book.now document.size body (part ++ w.new)
+took-all document before there part old new body more e t w =
+    subst (λ (l : List ℕ). Took document.file.now document.book.now document.size body (l ++ w.new)) e (w.took [] t refl)
 
 -- ---- what a failure leaves
 
@@ -161,10 +162,13 @@ module _ (front : List ℕ) (place size : ℕ) (there : front_check front ≡ gi
       }
 
   -- so it is after the last block, whatever the rest is, and that is nothing where the reader is at its end
-  pub run-read : (file book : List ℕ) (begun : Body) (laid : List ℕ) (old new : Option (List ℕ)) (last : Body) → file ≡ take place front
-      → book ≡ program_book file → laid ≡ drop start front → Took file book size begun [] → (w : TookMore file book size begun laid old new last false)
-      → (rest : List ℕ) → (IsAtEnd new → rest ≡ []) → HasRead file book size last (front ++ (w.new ++ rest)) (drop start front ++ w.new) rest
-  run-read file book begun laid old new last file_is book_is laid_is took w rest none =
-      has-read file book last w.new rest file_is book_is
-      (took-all file book size begun laid (drop start front) old new last false laid_is took w)
-      (λ e. none (w.at_end refl e))
+  pub run-read : (document : Document) (begun : Body) (laid : List ℕ) (old new : Option (List ℕ)) (last : Body) → document.size ≡ size
+      → document.file.now ≡ take place front → document.book.now ≡ program_book document.file.now → laid ≡ drop start front
+      → Took document.file.now document.book.now document.size begun [] → (w : TookMore document begun laid old new last false)
+      → (rest : List ℕ) → (IsAtEnd new → rest ≡ [])
+      → HasRead document.file.now document.book.now document.size last (front ++ (w.new ++ rest)) (drop start front ++ w.new) rest
+  run-read document begun laid old new last size_is file_is book_is laid_is took w rest none =
+      rw size_is
+      (has-read document.file.now document.book.now last w.new rest file_is book_is
+      (rw size_is at (took-all document begun laid (drop start front) old new last false laid_is took w))
+      (λ e. none (w.at_end refl e)))

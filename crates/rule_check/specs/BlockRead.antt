@@ -4,15 +4,16 @@ use Rattle.std.specs.Prelude.{ℕ, suc, ◌-◌, ◌%◌, ◌<◌, ◌≡◌, Bo
 use Rattle.std.specs.declared.option.Option.{Option}
 use Rattle.std.specs.Io.KnownBytes.{Consumes, IsAtEnd}
 use Rattle.program.specs.declared.body.Body.{Body}
+use Rattle.program.specs.declared.body.Document.{Document}
 use Rattle.program.specs.Bodies.{Took}
 
 -- What one body led to: it took some bytes more, where there is more to read no event straddles, and otherwise all was read,
 -- unless bytes came after the record.
-pub record TookMore (file book : List ℕ) (size : ℕ) (before : Body) (there : List ℕ) (left after : Option (List ℕ)) (body : Body) (more : Bool) : Type 0 where
+pub record TookMore (document : Document) (before : Body) (there : List ℕ) (left after : Option (List ℕ)) (body : Body) (more : Bool) : Type 0 where
   pub new : List ℕ
   pub gave : Consumes left after new
-  pub took : (bytes : List ℕ) → Took file book size before bytes → length bytes % 2 ≡ 0
-      → Took file book size body (bytes ++ (there ++ new))
+  pub took : (bytes : List ℕ) → Took document.file.now document.book.now document.size before bytes → length bytes % 2 ≡ 0
+      → Took document.file.now document.book.now document.size body (bytes ++ (there ++ new))
   pub even : more ≡ true → length (there ++ new) % 2 ≡ 0
   pub at_end : more ≡ false → IsSome body.taken → IsAtEnd after
 
@@ -23,10 +24,10 @@ left true size None = 1
 left false size taken = 0
 
 -- one block: its bytes were taken, and where there is more to read, fewer of the record are left
-pub record OneBlock (file book : List ℕ) (size : ℕ) (before : Body) (there : List ℕ) (start after : Option (List ℕ)) (body : Body) (more : Bool) : Type 0 where
-  pub went : TookMore file book size before there start after body more
-  pub fewer : left more size body.taken < left true size before.taken
+pub record OneBlock (document : Document) (before : Body) (there : List ℕ) (start after : Option (List ℕ)) (body : Body) (more : Bool) : Type 0 where
+  pub went : TookMore document before there start after body more
+  pub fewer : left more document.size body.taken < left true document.size before.taken
 
 -- all blocks: there is no more to read
-abbrev pub AllBlocks : List ℕ → List ℕ → ℕ → Body → List ℕ → Option (List ℕ) → Option (List ℕ) → Body → Type 0
-AllBlocks file book size before there start after body = TookMore file book size before there start after body false
+abbrev pub AllBlocks : Document → Body → List ℕ → Option (List ℕ) → Option (List ℕ) → Body → Type 0
+AllBlocks document before there start after body = TookMore document before there start after body false

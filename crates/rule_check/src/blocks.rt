@@ -26,7 +26,7 @@ fn one_block<R: Read>(
 ) -> io::Result<bool>
     requires whole_block { length block.old ≡ block_length }
     requires there_within { there ≤ length block.old }
-    ensures went { IfOk result (OneBlock document.entry.file.now document.entry.book.now document.entry.size body.old (take there block.old) (R.remaining reader.old) (R.remaining reader.new) body.new) }
+    ensures went { IfOk result (OneBlock document.entry body.old (take there block.old) (R.remaining reader.old) (R.remaining reader.new) body.new) }
     ensures lost { OnErr result ((bytes : List ℕ) × Consumes (R.remaining reader.old) (R.remaining reader.new) bytes) }
 {
     let count = source::fill(reader, block, there)?;
@@ -45,7 +45,7 @@ fn read_body<R: Read>(
 ) -> io::Result<()>
     requires whole_block { length block.old ≡ block_length }
     requires there_within { there ≤ length block.old }
-    ensures went { OnOk result (AllBlocks document.entry.file.now document.entry.book.now document.entry.size body.old (take there block.old) (R.remaining reader.old) (R.remaining reader.new) body.new) }
+    ensures went { OnOk result (AllBlocks document.entry body.old (take there block.old) (R.remaining reader.old) (R.remaining reader.new) body.new) }
     ensures lost { OnErr result ((bytes : List ℕ) × Consumes (R.remaining reader.old) (R.remaining reader.new) bytes) }
 {
     let mut more = one_block(reader, document, body, block, there)?;

@@ -17,6 +17,7 @@ fn write_some<W: Write>(writer: &mut W, bytes: &[u8]) -> io::Result<usize>
 }
 
 // Writes all of the bytes, or answers the error of the write that took nothing or failed, and then a front of them is written.
+// A loop of its own, since std's `write_all` does not say that.
 pub fn write_all<W: Write>(writer: &mut W, bytes: &[u8]) -> io::Result<()>
     ensures all_written { OnOk result (Appends (W.contents writer.old) (W.contents writer.new) bytes.now) }
     ensures front_written { OnErr result ((count : ℕ) × Appends (W.contents writer.old) (W.contents writer.new) (take count bytes.now)) }

@@ -18,6 +18,7 @@ fn read_some<R: Read>(reader: &mut R, buffer: &mut [u8]) -> io::Result<usize>
 
 // Reads until the buffer is full from a place on, or the input ends, or a read fails, and answers how many bytes the buffer
 // holds now. Short reads are normal. The bytes before the place stay, also where a read fails after some that did not.
+// A loop of its own, since std's `read_exact` does not say what a failed read leaves; its place is the answer.
 pub fn fill<R: Read>(reader: &mut R, buffer: &mut [u8], from: usize) -> io::Result<usize>
     requires { from ≤ length buffer.old }
     ensures count_in_bounds { IfOk result (λ count. (from ≤ count) × (count ≤ length buffer.old)) }

@@ -13,7 +13,7 @@ returns-then-is_some-clause-went g c =
     let counted = length-take-le count c.fill.new.buffer within in
     record {
       went =
-          went-block a.document.file.now a.document.book.now a.document.size a.body.now a.there count a.block.now c.fill.new.buffer _ _ _ _
+          went-block a.document a.body.now a.there count a.block.now c.fill.new.buffer _ _ _ _
           filled.count_in_bounds.0 within (c.fill.auto.buffer ∙ c.requires.whole_block) filled.buffer_unchanged filled.read
           c.take.ensures.took_more (λ m. eqb-true count 65536 m)
           (λ m n. filled.«end» (short-block count (length a.block.now) (eqb-false count 65536 m) c.requires.whole_block filled.count_in_bounds.1));
@@ -29,7 +29,7 @@ returns-else-is_some-clause-went g c =
     let none = c.if-is_some.false in
     record {
       went =
-          went-block a.document.file.now a.document.book.now a.document.size a.body.now a.there count a.block.now c.fill.new.buffer _ _ _ _
+          went-block a.document a.body.now a.there count a.block.now c.fill.new.buffer _ _ _ _
           filled.count_in_bounds.0 within (c.fill.auto.buffer ∙ c.requires.whole_block) filled.buffer_unchanged filled.read
           c.take.ensures.took_more (λ m. absurd (both_ways _ none m)) (λ m n. absurd (both_ways _ none (c.is_some.ensures ∙ n)));
       fewer = fewer-left _ _ _ _ _ c.take.ensures.within_record (λ m. absurd (both_ways _ none m));

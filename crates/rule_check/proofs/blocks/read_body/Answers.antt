@@ -9,7 +9,7 @@ loop-more-preserved g c =
     let one = rw c.loop-more-test.true at so_far.went in
     record {
       whole = c.one_block-in-loop-more.auto.block ∙ so_far.whole;
-      went = went_on _ _ _ _ _ _ _ _ _ _ _ one c.in_ok-more-2.ensures.went.went;
+      went = went_on _ _ _ _ _ _ _ _ _ one c.in_ok-more-2.ensures.went.went;
     }
 
 pub returns-in_err-more-2-clause-lost : goal.returns-in_err-more-2-clause-lost

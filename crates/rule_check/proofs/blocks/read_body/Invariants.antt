@@ -7,7 +7,7 @@ abbrev pub invariant-loop-more : goal.invariant-loop-more
 invariant-loop-more g l =
     record {
       whole : length l.block ≡ length l.fn.block;
-      went : TookMore l.document.file.now l.document.book.now l.document.size l.fn.body (take l.there l.fn.block) (g.R.Read.remaining l.fn.reader)
+      went : TookMore l.document l.fn.body (take l.there l.fn.block) (g.R.Read.remaining l.fn.reader)
           (g.R.Read.remaining l.reader) l.body l.more;
     }
 

@@ -33,7 +33,7 @@ returns g c =
     → c.text.result ≡ printed (front ++ (went.new ++ rest))
     = λ rest none.
     c.text.ensures _ _ _
-    (run-read front a.at.place a.at.size c.requires.events_there _ c.open-opened.result.book c.begin-body.result _ _ _ _ file c.open-opened.ensures.own_book laid
+    (run-read front a.at.place a.at.size c.requires.events_there _ c.begin-body.result _ _ _ _ refl file c.open-opened.ensures.own_book laid
     took went rest none) in
     record {
       as_read = (went.new, went.gave, said [] (λ e. refl) ∙ ap (λ l. printed (front ++ l)) (append-nil went.new));
