@@ -13,7 +13,7 @@ lies numbers held h e = record { fitted_is = sym (le-leb _ _ h); held_is = rw (l
 -- two stores at the head, and the values in the rest
 stored : (number place : ℕ) (values held : List ℕ) → length values + 2 ≤ length held
     → put_mid 2 (length values + 2 - 2) (set (set held 0 number) 1 place) values
-      ≡ (number ∷ place ∷ values) ++ drop (length (number ∷ place ∷ values)) held
+    ≡ (number ∷ place ∷ values) ++ drop (length (number ∷ place ∷ values)) held
 stored number place values [] h = absurd (omega arith)
 stored number place values (x ∷ []) h = absurd (omega arith)
 stored number place values (x ∷ y ∷ held) h = let same : length values + 2 - 2 ≡ length values = omega arith in rw same
