@@ -30,7 +30,8 @@ pub fn make_book(rule: CheckedRule, book: &mut [u64]) -> Result<u32, Refusal>
         return Err(Reason::BookTooShort.at(0));
     }
     let reach = Reach::of(TreeEnds::of(rule));
-    if reach.last_round_adds() {
+    let used_up = reach.last_round_adds();
+    if used_up {
         return Err(Reason::RoundsUsedUp.at(0));
     }
     Ok(reach.write_book(book))

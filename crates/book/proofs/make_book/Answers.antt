@@ -21,25 +21,25 @@ pub returns-then-book-rule-clause-book_after : goal.returns-then-book-rule-claus
 returns-then-book-rule-clause-book_after c =
     sym (after-refused _ _ _ (book-short (rule_of c.args.rule.file.now) c.args.book.now (omega (arith, states-are c.args.rule.accepted))))
 
-pub returns-then-last_round_adds-clause-answer : goal.returns-then-last_round_adds-clause-answer
+pub returns-then-used_up-clause-answer : goal.returns-then-used_up-clause-answer
 unfolding number_of
-returns-then-last_round_adds-clause-answer c =
+returns-then-used_up-clause-answer c =
     let same = ap (λ (ends : TreeEnds). ends.rule) c.of-reach.ensures ∙ c.of.ensures in
-    let used = rw same at (sym c.last_round_adds.ensures ∙ c.if-last_round_adds.true) in
-    refusal-at c.at-then-last_round_adds.ensures.number c.at-then-last_round_adds.ensures.place
+    let used = rw same at (sym c.last_round_adds-used_up.ensures ∙ c.if-used_up.true) in
+    refusal-at c.at-then-used_up.ensures.number c.at-then-used_up.ensures.place
     ∙ sym (rounds-used-up (rule_of c.args.rule.file.now) c.args.book.now (omega (arith, states-are c.args.rule.accepted)) used)
 
-pub returns-then-last_round_adds-clause-book_after : goal.returns-then-last_round_adds-clause-book_after
-returns-then-last_round_adds-clause-book_after c =
+pub returns-then-used_up-clause-book_after : goal.returns-then-used_up-clause-book_after
+returns-then-used_up-clause-book_after c =
     let same = ap (λ (ends : TreeEnds). ends.rule) c.of-reach.ensures ∙ c.of.ensures in
-    let used = rw same at (sym c.last_round_adds.ensures ∙ c.if-last_round_adds.true) in
+    let used = rw same at (sym c.last_round_adds-used_up.ensures ∙ c.if-used_up.true) in
     sym (after-refused _ _ _ (rounds-used-up (rule_of c.args.rule.file.now) c.args.book.now (omega (arith, states-are c.args.rule.accepted)) used))
 
 pub returns-clause-answer : goal.returns-clause-answer
 unfolding says
 returns-clause-answer c =
     let same = ap (λ (ends : TreeEnds). ends.rule) c.of-reach.ensures ∙ c.of.ensures in
-    let unused = rw same at (sym c.last_round_adds.ensures ∙ c.if-last_round_adds.false) in
+    let unused = rw same at (sym c.last_round_adds-used_up.ensures ∙ c.if-used_up.false) in
     ap given (rw same at c.write_book.ensures.still_count)
     ∙ sym (book-made (rule_of c.args.rule.file.now) c.args.book.now (omega (arith, states-are c.args.rule.accepted)) unused)
 
@@ -47,7 +47,7 @@ pub returns-clause-book_after : goal.returns-clause-book_after
 returns-clause-book_after c =
     let R = rule_of c.args.rule.file.now in
     let same = ap (λ (ends : TreeEnds). ends.rule) c.of-reach.ensures ∙ c.of.ensures in
-    let unused = rw same at (sym c.last_round_adds.ensures ∙ c.if-last_round_adds.false) in
+    let unused = rw same at (sym c.last_round_adds-used_up.ensures ∙ c.if-used_up.false) in
     rw same at c.write_book.ensures.book_after
     ∙ ap (λ (n : ℕ). book_of R ++ drop (n + 1) c.args.book.now) (sym (states-are c.args.rule.accepted))
     ∙ sym (after-given _ R c.args.book.now (book-made R c.args.book.now (omega (arith, states-are c.args.rule.accepted)) unused))
