@@ -23,6 +23,7 @@ impl<'a> Standing<'a> {
         ensures { (book : List ℕ) (store : List Level) → Stands book self.now.reading self.now.top settled → FeedsBy book self.now store → top_of self.now.reading store ≡ self.now.top → length store ≡ self.now.room → AdvancesBy book self.now store events.now next result }
     {
         match self.skip_event(settled, events[next]) {
+            // Two arms alike: under `Ok`, of `Stays(after) | Ends(after)`, a proof does not learn which case it was.
             Ok(Turn::Stays(after)) => Advance::storing_none(after, next + 1),
             Ok(Turn::Ends(after)) => Advance::storing_none(after, next + 1),
             Ok(Turn::Stores(level, after)) => {
