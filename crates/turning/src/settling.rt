@@ -22,7 +22,16 @@ impl Settled {
         requires { BookServes book.now reading top }
         ensures { Stands book.now reading top result }
     {
-        if in_hold(book, reading, top) {
+        Settled::by(book, reading, in_hold(book, reading, top))
+    }
+
+    // The same, where it is known whether the level is held.
+    pub fn by(book: &[u64], reading: Reading, held: bool) -> Self
+        requires state_bit { reading.state < 64 }
+        requires still_word { 0 < length book.now }
+        ensures { (top : Level) → held ≡ skipping.held book.now reading top → Stands book.now reading top result }
+    {
+        if held {
             return Settled::Held;
         }
         if in_set(book[0], reading.state) {
@@ -56,7 +65,7 @@ fn in_set(word: u64, state: u8) -> bool
 }
 
 // Whether the level has an upper state u and the state is in hold(u).
-fn in_hold(book: &[u64], reading: Reading, top: Level) -> bool
+pub fn in_hold(book: &[u64], reading: Reading, top: Level) -> bool
     requires { BookServes book.now reading top }
     ensures { result ≡ skipping.held book.now reading top }
 {
