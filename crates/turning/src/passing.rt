@@ -98,7 +98,7 @@ impl Depths {
         ensures depths { DepthsOf block.now result }
         ensures begun { result.begun ≡ 256 }
     {
-        let mut a = Depths::begun_at(64);
+        let mut a = Depths::begun_at(QUARTER as u16);
         let mut b = a;
         let mut c = a;
         let mut d = a;
