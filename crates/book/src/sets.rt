@@ -79,6 +79,7 @@ pub fn table_of<F: Fn(u8) -> u64>(states: u8, set_of: F) -> [u64; 64]
     ensures each { (state : ℕ) → state < states → F.post set_of state (get_or result state 0) }
 {
     let mut table = [0; 64];
+    // By the state, which the closure takes besides: through iter_mut and zip a proof is told no value of the table.
     for state in 0..states {
         table[usize::from(state)] = set_of(state);
     }
