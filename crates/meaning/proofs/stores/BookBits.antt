@@ -16,7 +16,8 @@ use Rattle.meaning.specs.FullReading.{Event, opens, closes, letter, event_of}
 use Rattle.meaning.specs.SkipBook.{bit, in_still, in_hold}
 use Rattle.meaning.specs.Skipping.{held, settled, ends_level, settled_turn, skip_turn, skip_event, SameSets, Zeros}
 use Rattle.meaning.specs.Calls.{Stored, top_of, store_step, not_reading, reading_check, feed_call, finish_call}
-use Rattle.meaning.proofs.laws.Truths.{by_cases}
+use Rattle.std.proofs.lemmas.Bool.{cases_Bool}
+use mathlib.Core.Logic.{⊎_elim}
 use Rattle.meaning.proofs.laws.FeedKeeps.{feed-alike}
 use Rattle.meaning.proofs.rulefile.Accepted.{accepted-is-rule}
 use Rattle.meaning.proofs.skipbook.BookLong.{long-passes}
@@ -66,10 +67,10 @@ module _ {R : Rule} {book book' : List ℕ} (same : SameSets R book book') (r : 
   held-alike : held book r top ≡ held book' r top
   unfolding held
   held-alike =
-      by_cases (0 <? r.depth)
+      ⊎_elim
       (λ deep.
       cc (same.hold_same top.above r.state (below-states _ _ (above_in (ltb-true 0 _ deep))) (below-states _ _ state_in)))
-      (λ flat. rw flat)
+      (λ flat. rw flat) (cases_Bool (0 <? r.depth))
 
   settled-alike : settled book r top ≡ settled book' r top
   unfolding settled
