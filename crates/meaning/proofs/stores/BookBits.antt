@@ -3,11 +3,13 @@
 -- passes, every state that is asked for lies below n, and stays there while events are taken.
 use mathlib.Core.Path.{◌≡◌, refl, sym, ap, ◌∙◌}
 use mathlib.Core.Bool.{Bool, true, false}
+use mathlib.Core.Logic.{⊎_elim}
 use mathlib.Core.List.{List, ◌++◌}
 use Prim.Native.Nat.{ℕ, ◌+◌, ◌≤◌, ◌<◌}
 use native.Mathlib.Omega.{arith}
 use lib.ListN.{length, get_or-append}
 use borrow.Author.Tests.{ltb-true}
+use Rattle.std.proofs.lemmas.Bool.{cases_Bool}
 use Rattle.meaning.specs.declared.Reading.{Reading}
 use Rattle.meaning.specs.declared.Level.{Level}
 use Rattle.meaning.specs.Answers.{Answer, given, refused, ◌giving◌, ◌<?◌}
@@ -16,8 +18,6 @@ use Rattle.meaning.specs.FullReading.{Event, opens, closes, letter, event_of}
 use Rattle.meaning.specs.SkipBook.{bit, in_still, in_hold}
 use Rattle.meaning.specs.Skipping.{held, settled, ends_level, settled_turn, skip_turn, skip_event, SameSets, Zeros}
 use Rattle.meaning.specs.Calls.{Stored, top_of, store_step, not_reading, reading_check, feed_call, finish_call}
-use Rattle.std.proofs.lemmas.Bool.{cases_Bool}
-use mathlib.Core.Logic.{⊎_elim}
 use Rattle.meaning.proofs.laws.FeedKeeps.{feed-alike}
 use Rattle.meaning.proofs.rulefile.Accepted.{accepted-is-rule}
 use Rattle.meaning.proofs.skipbook.BookLong.{long-passes}
