@@ -7,6 +7,7 @@ use mathlib.Core.List.{List, []}
 use Prim.Native.Nat.{ℕ, zero, suc, ◌^◌, ◌≤◌, ◌<◌}
 use native.Mathlib.Omega.{arith}
 use lib.Bits.{bit_xor}
+use Rattle.std.proofs.Math.Bool.{and-or_distrib_right}
 use lib.ListN.{get_or}
 use Rattle.std.proofs.lemmas.Bool.{or_right}
 use Rattle.std.specs.Cmp.Derive.{one_truth}
@@ -49,13 +50,6 @@ any-either zero f g = refl
 any-either (suc n) f g =
     ap (λ (b : Bool). b || (f n || g n)) (any-either n f g) ∙ either-of-two (any_below n f) (any_below n g) (f n) (g n)
 
--- a move whose lower state is among some, or among more
-either-move : (a b c : Bool) → ((a || b) && c) ≡ (a && c || (b && c))
-either-move true b true = refl
-either-move true true false = refl
-either-move true false false = refl
-either-move false b c = refl
-
 -- with the tree moves of more lower states a table is one for these lower states too
 more-moves : (R : Rule) (lowers lowers' : List Bool) (table more : List ℕ) (added : ℕ) → Moves R lowers table → WithTrees R added table more
     → ((lower : ℕ) → marked lowers' lower ≡ (marked lowers lower || bit added lower)) → Moves R lowers' more
@@ -67,7 +61,7 @@ more-moves R lowers lowers' table more added good grown either q h p l =
     ∙ ap (λ (b : Bool). by_letters R q p || b)
     (sym (any-either R.states (λ lower. marked lowers lower && goes_to p (tree_move R q lower)) (λ lower. bit added lower && goes_to p (tree_move R q lower)))
     ∙ any-below-same R.states _ _ (λ lower k. sym (ap (λ (b : Bool). b && goes_to p (tree_move R q lower)) (either lower)
-    ∙ either-move (marked lowers lower) (bit added lower) (goes_to p (tree_move R q lower)))))
+    ∙ and-or_distrib_right (marked lowers lower) (bit added lower) (goes_to p (tree_move R q lower)))))
 
 -- ---- where two words differ
 
