@@ -43,6 +43,7 @@ impl Pass {
     }
 
     // More events.
+    // File and book are lent to each call: the two passes differ in the book.
     pub fn go_on(&mut self, file: &[u8], book: &[u64], events: &[u16])
         ensures { pass_says self.new ≡ fed_on file.now book.now (pass_says self.old) events.now }
     {
