@@ -7,7 +7,7 @@ ghost use Rattle.program.specs.Passes.{pass_says, fed_on};
 
 use meaning::{Judgement, Level, Reading, Refusal};
 
-// The largest ceiling, and the levels of a pass.
+// The largest ceiling, and the levels of a pass. Its own const, since reading exports none.
 const CEILING: u32 = u32::MAX;
 
 const LEVELS: usize = 1024;
