@@ -7,6 +7,7 @@ mod reason;
 mod verdict;
 
 pub use reason::Reason;
+use std::fmt;
 pub use verdict::{NoClass, Verdict};
 
 // A refusal: its number in document 01's table, and the place that the table gives it. The number is no `Reason`, since
@@ -15,6 +16,12 @@ pub use verdict::{NoClass, Verdict};
 pub struct Refusal {
     pub number: u8,
     pub place: usize,
+}
+
+impl fmt::Display for Refusal {
+    fn fmt<W: fmt::Write>(&self, f: &mut fmt::Formatter<W>) -> fmt::Result {
+        write!(f, "refused {} {}", self.number, self.place)
+    }
 }
 
 // A verdict with its end state.

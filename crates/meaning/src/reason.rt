@@ -36,8 +36,7 @@ impl Reason {
 
     // The refusal for this reason at a place.
     pub fn at(self, place: usize) -> Refusal
-        ensures number { result.number ≡ number_of self }
-        ensures place { result.place ≡ place }
+        ensures { result ≡ record { number = number_of self; place = place } }
     {
         Refusal {
             number: self.number(),

@@ -2,12 +2,11 @@
 -- what is laid at the front of a lent rest is laid in the whole at the rest's place.
 use mathlib.Core.Path.{◌≡◌, refl, sym, ap, ◌∙◌}
 use mathlib.Core.List.{List, [], ◌++◌, append_assoc, append-nil}
-use Prim.Native.Nat.{ℕ, ◌+◌, ◌-◌, ◌≤◌, ◌<◌}
+use Prim.Native.Nat.{ℕ, ◌+◌, ◌-◌, ◌≤◌}
 use native.Mathlib.Nat.{zero-add}
-use native.Mathlib.Numerals.{add-one}
 use native.Mathlib.Omega.{arith}
-use lib.ListN.{length, get_or, take, drop, set, length-append, length-take, length-drop, drop_of_length-le}
-use lib.Seq.{sets, sets-eq, drop-drop, take_at, drop_at, take-length, take_all, paste, paste-suc}
+use lib.ListN.{length, take, drop, length-append, length-take, length-drop, drop_of_length-le}
+use lib.Seq.{sets, sets-eq, drop-drop, take_at, drop_at, take_all}
 use borrow.Rule.Slice.PartMut.{put_mid, mid_of, post_of}
 use Rattle.meaning.specs.RuleFile.{bytes2, bytes4, record_bytes}
 use Rattle.rule.specs.Laid.{laid, header_bytes}
@@ -72,16 +71,3 @@ laid-record place kind body output {headed} laid_down copied h =
     ap (put_mid start (length headed - start) headed) copied
     ∙ laid-lent start body headed (omega arith)
     ∙ laid_next place start (header_bytes kind (length body)) body output laid_down refl h
-
--- a turn of the loop that copies: its store is the next byte of the body
-pub copied_more : (body output : List ℕ) (i : ℕ) → i < length body → length body ≤ length output
-    → set (paste output 0 body i) i (get_or body i 0) ≡ paste output 0 body (i + 1)
-copied_more body output i h room =
-    ap (λ (k : ℕ). set (paste output 0 body i) k (get_or body i 0)) (sym (zero-add i))
-    ∙ paste-suc output 0 body i 0 (omega arith) h
-    ∙ ap (paste output 0 body) (sym (add-one i))
-
--- a whole body, copied to the front
-pub laid-copied : (body output : List ℕ) → paste output 0 body (length body) ≡ laid 0 body output
-unfolding laid
-laid-copied body output = rw take-length

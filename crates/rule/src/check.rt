@@ -37,7 +37,7 @@ pub fn number4(file: &[u8], place: usize) -> u32
 fn from_one_to(most: u16, x: u16) -> bool
     ensures { result ≡ (1 ≤? x && x ≤? most) }
 {
-    1 <= x && x <= most
+    (1..=most).contains(&x)
 }
 
 // The four numbers, in file order.
@@ -111,7 +111,8 @@ fn body_check(
     table_check(&file[start..end], start, good)
 }
 
-// The three tables of a file whose numbers are in range, and nothing after them.
+// The three tables of a file whose numbers are in range, and nothing after them. No `CheckedRule`: this check is a part of what makes
+// one.
 pub fn tables_check(file: &[u8], rule: Rule) -> Result<(), Refusal>
     ensures { says result ≡ tables_check file.now rule.states rule.letters }
 {

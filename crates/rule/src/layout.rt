@@ -8,7 +8,7 @@ use crate::tables::{HEADER, product};
 pub const NUMBERS: usize = 5;
 
 // The place of the second record.
-pub const LETTER_RECORD: usize = 11;
+pub const LETTER_RECORD: usize = HEADER + NUMBERS;
 
 // The bytes of the letter moves and of the tree moves, the places of the third and the fourth record, and the bytes of the
 // whole file.

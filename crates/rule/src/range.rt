@@ -4,7 +4,7 @@ ghost use Rattle.rule.specs.Checks.{in_range};
 
 use crate::Rule;
 
-// The numbers below a bound, and none where that is allowed.
+// The numbers below a bound, and none where that is allowed. A flag and no enum of two cases: `contains` asks for both at once.
 #[derive(Clone, Copy, Debug, PartialEq, Eq, Hash)]
 pub struct Range {
     pub below: u8,
@@ -20,8 +20,7 @@ impl Range {
 
     // The states of a rule with so many.
     pub fn states(states: u8) -> Self
-        ensures below { result.below ≡ states }
-        ensures none { result.none ≡ false }
+        ensures { result ≡ record { below = states; none = false } }
     {
         Range {
             below: states,
@@ -31,12 +30,11 @@ impl Range {
 
     // The moves of a rule with so many states.
     pub fn moves(states: u8) -> Self
-        ensures below { result.below ≡ states }
-        ensures none { result.none ≡ true }
+        ensures { result ≡ record { below = states; none = true } }
     {
         Range {
-            below: states,
             none: true,
+            ..Range::states(states)
         }
     }
 

@@ -7,6 +7,7 @@ ghost use Rattle.meaning.specs.FullReading.{no_move_number};
 ghost use Rattle.rule.specs.Tables.{table_says, letter_byte, tree_byte, class_byte, move_in};
 
 use crate::Rule;
+use crate::layout::{LETTER_RECORD, Layout};
 use meaning::Reason;
 
 // The three tables that a look may be in.
@@ -32,12 +33,12 @@ impl From<Table> for Reason {
 }
 
 // The bytes before the letter moves.
-const LETTER_MOVES: usize = 17;
+const LETTER_MOVES: usize = LETTER_RECORD + HEADER;
 
 // The bytes of a header.
 pub const HEADER: usize = 6;
 
-// The byte at a place, or none past the end.
+// The byte at a place, or none past the end. None is the byte 255 of the format, and what the definition reads there too.
 fn byte_or_none(file: &[u8], place: usize) -> u8
     ensures { result ≡ get_or file.now place 255 }
 {
@@ -61,7 +62,8 @@ pub(crate) fn product(a: u16, b: u16) -> usize
     (a as usize) * (b as usize)
 }
 
-// The letter move of a state and a letter, as the file has it.
+// The letter move of a state and a letter, as the file has it. The places of the moves are not by `Layout`: no look needs its other
+// sums.
 pub fn letter_move(file: &[u8], rule: Rule, state: u8, letter: u16) -> Result<u8, Table>
     ensures { result ≡ move_in Table.LetterMoves (letter_byte file.now rule.letters state letter) }
 {
@@ -91,10 +93,6 @@ pub fn tree_move(file: &[u8], rule: Rule, upper: u8, lower: u8) -> Result<u8, Ta
 pub fn class_at(file: &[u8], rule: Rule, state: u8) -> u8
     ensures { result ≡ class_byte file.now rule.states rule.letters state }
 {
-    let letters = product(rule.states as u16, rule.letters);
-    let trees = product(rule.states as u16, rule.states as u16);
-    byte_or_none(
-        file,
-        LETTER_MOVES + letters + HEADER + trees + HEADER + state as usize,
-    )
+    let place = Layout::of(rule).class_record + HEADER + state as usize;
+    byte_or_none(file, place)
 }

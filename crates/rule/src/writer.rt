@@ -65,7 +65,7 @@ fn numbers(output: &mut [u8], rule: Rule)
     record(output, 0, Kind::Numbers, &body);
 }
 
-// The three tables, after the first record.
+// The three tables, after the first record. Their places go by the tables' own lengths, for which alone room is asked.
 fn tables(output: &mut [u8], parts: Parts)
     requires { 29 + length parts.letter_moves.now + length parts.tree_moves.now + length parts.classes.now ≤ length output.old }
     ensures { output.new ≡ laid 11 (record_bytes 2 parts.entry.letter_moves.now ++ (record_bytes 3 parts.entry.tree_moves.now ++ record_bytes 4 parts.entry.classes.now)) output.old }

@@ -14,7 +14,7 @@ use Rattle.book.proofs.make_book.Goals as goal
 pub returns-then-book-rule-clause-answer : goal.returns-then-book-rule-clause-answer
 unfolding number_of
 returns-then-book-rule-clause-answer c =
-    refusal-at c.at.ensures.number c.at.ensures.place
+    refusal-at c.at.ensures
     ∙ sym (book-short (rule_of c.args.rule.file.now) c.args.book.now (omega (arith, states-are c.args.rule.accepted)))
 
 pub returns-then-book-rule-clause-book_after : goal.returns-then-book-rule-clause-book_after
@@ -26,7 +26,7 @@ unfolding number_of
 returns-then-used_up-clause-answer c =
     let same = ap (λ (ends : TreeEnds). ends.rule) c.of-reach.ensures ∙ c.of.ensures in
     let used = rw same at (sym c.last_round_adds-used_up.ensures ∙ c.if-used_up.true) in
-    refusal-at c.at-then-used_up.ensures.number c.at-then-used_up.ensures.place
+    refusal-at c.at-then-used_up.ensures
     ∙ sym (rounds-used-up (rule_of c.args.rule.file.now) c.args.book.now (omega (arith, states-are c.args.rule.accepted)) used)
 
 pub returns-then-used_up-clause-book_after : goal.returns-then-used_up-clause-book_after

@@ -11,7 +11,7 @@ pub returns-in-Ok : goal.returns-in-Ok
 unfolding front_says refusal_says number_of
 returns-in-Ok c =
     let accepted = fine-accepted c.args.front.now c.in-Ok.field-0 c.in-Ok.ensures in
-    rw (c.at.ensures.number, c.at.ensures.place) (sym (missing c.args.front.now accepted.1))
+    rw c.at.ensures (sym (missing c.args.front.now accepted.1))
 
 pub returns-in-Err : goal.returns-in-Err
 unfolding number_of

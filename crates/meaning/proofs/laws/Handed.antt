@@ -9,10 +9,10 @@ use Rattle.meaning.specs.declared.Refusal.{Refusal}
 use Rattle.meaning.proofs.laws.Answered.{and_then-passes, and_then-stops, giving-passes, giving-stops}
 
 -- a refusal with a number and a place says these
-pub refusal-at : {A : Type 0} {r : Refusal} {number place : ℕ} → r.number ≡ number → r.place ≡ place
+pub refusal-at : {A : Type 0} {r : Refusal} {number place : ℕ} → r ≡ record { number = number; place = place }
     → says {A = A} (Err r) ≡ refused number place
 unfolding says refusal_says
-refusal-at n p = rw (n, p)
+refusal-at e = rw e
 
 -- `?` hands on the refusal that it met
 pub handed_on : {B : Type 0} (r : Result B Refusal) (x : Refusal) → IsErrAnd r (λ e. e ≡ x) → says r ≡ refusal_says x

@@ -15,7 +15,7 @@ pub returns-then-book-checked-clause-refuses : goal.returns-then-book-checked-cl
 unfolding refusal_says number_of
 returns-then-book-checked-clause-refuses c =
     let h = rw c.in_ok-checked.ensures.accepts.0 at c.in_ok-checked.checked.accepted in
-    rw (c.at.ensures.number, c.at.ensures.place) (answer-short _ _ _ _ h (omega (arith, c.if-book-checked.true)))
+    rw c.at.ensures (answer-short _ _ _ _ h (omega (arith, c.if-book-checked.true)))
 
 pub not_reading-requires-clause-few_states : goal.not_reading-requires-clause-few_states
 not_reading-requires-clause-few_states c = few-states c.in_ok-checked.checked.accepted
@@ -24,7 +24,7 @@ pub returns-then-not_reading-clause-refuses : goal.returns-then-not_reading-clau
 unfolding refusal_says number_of
 returns-then-not_reading-clause-refuses c =
     let h = rw c.in_ok-checked.ensures.accepts.0 at c.in_ok-checked.checked.accepted in
-    rw (c.at-then-not_reading.ensures.number, c.at-then-not_reading.ensures.place)
+    rw c.at-then-not_reading.ensures
     (answer-unread _ _ _ _ h (omega (arith, c.if-book-checked.false)) (sym (c.not_reading.ensures _ (states-are h)) ∙ c.if-not_reading.true))
 
 pub returns-clause-admits : goal.returns-clause-admits

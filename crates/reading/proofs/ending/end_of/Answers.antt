@@ -9,7 +9,7 @@ use Rattle.reading.proofs.ending.end_of.Goals as goal
 pub returns-then-reading-gt0 : goal.returns-then-reading-gt0
 unfolding end_says refusal_says number_of end_of
 returns-then-reading-gt0 c =
-    rw (c.at.ensures.number, c.at.ensures.place, c.open_place.ensures) (sym (refuse-stops 12 _ _ (lt-ltb _ _ c.if-reading-gt0.true)))
+    rw (c.at.ensures, c.open_place.ensures) (sym (refuse-stops 12 _ _ (lt-ltb _ _ c.if-reading-gt0.true)))
 
 pub unwrap-requires : goal.unwrap-requires
 unwrap-requires c =

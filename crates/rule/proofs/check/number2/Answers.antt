@@ -1,4 +1,4 @@
--- A shift by eight bits is 256 times the byte, which is below 256.
+-- Two bytes, each below 256.
 use Rattle.std.proofs.Common.{◌+◌, arith}
 use Rattle.meaning.specs.RuleFile.{number2}
 use Rattle.rule.proofs.check.number2.Goals as goal

@@ -11,7 +11,7 @@ unfolding number_of
 returns-then-not-contains c =
     let a = c.args in
     let here : c.loop-i.i < length a.body.now = omega arith in
-    refusal-at c.at.ensures.number c.at.ensures.place
+    refusal-at c.at.ensures
     ∙ sym (c.loop-i.invariant ∙ table-bad (in_range a.good.below a.good.none) (a.place + c.loop-i.i) a.body.now c.loop-i.i here
     (sym c.contains.ensures ∙ c.if-not-contains.true))
 

@@ -1,5 +1,5 @@
 -- The three tables at the places that the code counted, and then what may follow them.
-use Rattle.std.proofs.Common.{◌≡◌, sym, ◌∙◌, Bool, true, false, List, ℕ, ◌+◌, length, arith}
+use Rattle.std.proofs.Common.{◌≡◌, sym, ap, ◌∙◌, Bool, true, false, List, ℕ, ◌+◌, length, arith}
 use borrow.Author.Tests.{lt-ltb, le-ltb}
 use Rattle.std.specs.Prelude.{Ok}
 use Rattle.meaning.specs.Answers.{Answer, refuse◌at◌when◌otherwise◌, given, ◌and_then◌, ◌<?◌}
@@ -25,9 +25,9 @@ tables-at file p = rw (p.letter_moves, p.tree_moves, p.tree_place, p.class_place
 
 -- what a table of moves was checked for, where the bound and the none of its range are known
 moves-of : (file : List ℕ) (place kind size : ℕ) {good : Range} {below : ℕ} {none : Bool} {answer : Answer Unit}
-    → good.below ≡ below → good.none ≡ none → answer ≡ body_check file place kind size good.below good.none
+    → good ≡ record { below = below; none = none } → answer ≡ body_check file place kind size good.below good.none
     → answer ≡ body_check file place kind size below none
-moves-of file place kind size b n e = rw (← b, ← n) e
+moves-of file place kind size is e = e ∙ ap (λ (good : Range). body_check file place kind size good.below good.none) is
 
 pub returns-in_err-body_check : goal.returns-in_err-body_check
 unfolding kind_code
@@ -35,7 +35,7 @@ returns-in_err-body_check c =
     let moves = c.moves-moves.ensures in
     handed_on _ _ c.from_residual.ensures.1
     ∙ sym (tables-at c.args.file.now c.of-at.ensures
-    ∙ and_then-err _ _ (moves-of _ _ _ _ moves.below moves.none c.in_err-body_check.ensures))
+    ∙ and_then-err _ _ (moves-of _ _ _ _ moves c.in_err-body_check.ensures))
 
 pub body_check-requires-2 : goal.body_check-requires-2
 unfolding file_length class_record tree_record letter_record
@@ -47,8 +47,8 @@ returns-in_err-body_check-2 c =
     let moves = c.moves-moves.ensures in
     handed_on _ _ c.from_residual-in_err-body_check-2.ensures.1
     ∙ sym (tables-at c.args.file.now c.of-at.ensures
-    ∙ and_then-ok _ (moves-of _ _ _ _ moves.below moves.none c.in_ok-body_check.ensures)
-    ∙ and_then-err _ _ (moves-of _ _ _ _ moves.below moves.none c.in_err-body_check-2.ensures))
+    ∙ and_then-ok _ (moves-of _ _ _ _ moves c.in_ok-body_check.ensures)
+    ∙ and_then-err _ _ (moves-of _ _ _ _ moves c.in_err-body_check-2.ensures))
 
 pub body_check-requires-3 : goal.body_check-requires-3
 unfolding file_length class_record tree_record letter_record
@@ -60,13 +60,13 @@ returns-in_err-body_check-3 c =
     let moves = c.moves-moves.ensures in
     handed_on _ _ c.from_residual-in_err-body_check-3.ensures.1
     ∙ sym (tables-at c.args.file.now c.of-at.ensures
-    ∙ and_then-ok _ (moves-of _ _ _ _ moves.below moves.none c.in_ok-body_check.ensures)
-    ∙ and_then-ok _ (moves-of _ _ _ _ moves.below moves.none c.in_ok-body_check-2.ensures)
+    ∙ and_then-ok _ (moves-of _ _ _ _ moves c.in_ok-body_check.ensures)
+    ∙ and_then-ok _ (moves-of _ _ _ _ moves c.in_ok-body_check-2.ensures)
     ∙ and_then-err _ _ c.in_err-body_check-3.ensures)
 
 -- where all three tables pass, the end of the file decides
 module _ (file : List ℕ) {n k : ℕ} {places : Layout} {moves : Range} {a b d : Unit {0}} (layout : IsLayout n k places)
-    (below : moves.below ≡ n) (none : moves.none ≡ true)
+    (range : moves ≡ record { below = n; none = true })
     (letters : says (Ok a) ≡ body_check file (header_length + numbers_length) 2 places.letter_moves moves.below moves.none)
     (trees : says (Ok b) ≡ body_check file places.tree_record 3 places.tree_moves moves.below moves.none)
     (classes : says (Ok d) ≡ body_check file places.class_record 4 n class_count false)
@@ -74,21 +74,21 @@ module _ (file : List ℕ) {n k : ℕ} {places : Layout} {moves : Range} {a b d 
     all-pass : tables_check file n k ≡ (refuse 5 at places.count when places.count <? length file otherwise given tt)
     all-pass =
         tables-at file layout
-        ∙ and_then-ok _ (moves-of _ _ _ _ below none letters)
-        ∙ and_then-ok _ (moves-of _ _ _ _ below none trees)
+        ∙ and_then-ok _ (moves-of _ _ _ _ range letters)
+        ∙ and_then-ok _ (moves-of _ _ _ _ range trees)
         ∙ and_then-ok _ classes
 
 pub returns-then-more : goal.returns-then-more
 unfolding kind_code number_of
 returns-then-more c =
     let moves = c.moves-moves.ensures in
-    refusal-at c.at.ensures.number c.at.ensures.place
-    ∙ sym (all-pass c.args.file.now c.of-at.ensures moves.below moves.none c.in_ok-body_check.ensures c.in_ok-body_check-2.ensures c.in_ok-body_check-3.ensures
+    refusal-at c.at.ensures
+    ∙ sym (all-pass c.args.file.now c.of-at.ensures moves c.in_ok-body_check.ensures c.in_ok-body_check-2.ensures c.in_ok-body_check-3.ensures
     ∙ refuse-stops 5 c.of-at.result.count _ (lt-ltb _ _ c.if-more.true))
 
 pub returns : goal.returns
 unfolding kind_code says
 returns c =
     let moves = c.moves-moves.ensures in
-    sym (all-pass c.args.file.now c.of-at.ensures moves.below moves.none c.in_ok-body_check.ensures c.in_ok-body_check-2.ensures c.in_ok-body_check-3.ensures
+    sym (all-pass c.args.file.now c.of-at.ensures moves c.in_ok-body_check.ensures c.in_ok-body_check-2.ensures c.in_ok-body_check-3.ensures
     ∙ refuse-passes 5 c.of-at.result.count _ (le-ltb _ _ c.if-more.false))

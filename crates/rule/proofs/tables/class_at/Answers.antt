@@ -1,15 +1,22 @@
 -- The place is that of the class record's body and the state.
 use Rattle.std.proofs.Common.{◌≡◌, ◌∙◌, ap, ℕ, ◌+◌, arith, get_or}
-use Rattle.meaning.specs.RuleFile.{none, header_length, class_record, tree_record, letter_record}
+use Rattle.meaning.specs.RuleFile.{none, header_length, class_record, tree_record, letter_record, file_length}
 use Rattle.rule.specs.Tables.{class_byte}
 use Rattle.rule.proofs.tables.class_at.Goals as goal
 
+pub overflow_add-place : goal.overflow_add-place
+unfolding file_length class_record tree_record letter_record
+overflow_add-place c = omega (arith, c.of.ensures.class_place, c.of.ensures.count, c.of.ensures.small)
+
+pub overflow_add-place-2 : goal.overflow_add-place-2
+unfolding file_length class_record tree_record letter_record
+overflow_add-place-2 c = omega (arith, c.of.ensures.class_place, c.of.ensures.count, c.of.ensures.small)
+
 pub returns : goal.returns
-unfolding class_byte class_record tree_record letter_record
+unfolding class_byte
 returns c =
     let a = c.args in
-    let same : 17 + c.product-letters.result + 6 + c.product-trees.result + 6 + a.state
-    ≡ class_record a.rule.states a.rule.letters + header_length + a.state =
-    omega arith
+    let same : c.of.result.class_record + 6 + a.state ≡ class_record a.rule.states a.rule.letters + header_length + a.state =
+    omega (arith, c.of.ensures.class_place)
     in
     c.byte_or_none.ensures ∙ ap (λ (i : ℕ). get_or a.file.now i none) same

@@ -58,26 +58,26 @@ module _ (R : format.Rule) {places : Layout} (layout : IsLayout R.states R.lette
 
 -- a table of moves, where the bound and the none of its range are known
 moves-of : (place : ℕ) (body : List ℕ) {good : Range} {below : ℕ} {none : Bool} {answer : Answer Unit}
-    → good.below ≡ below → good.none ≡ none → answer ≡ table_check (in_range good.below good.none) place body
+    → good ≡ record { below = below; none = none } → answer ≡ table_check (in_range good.below good.none) place body
     → answer ≡ table_check (in_range below none) place body
-moves-of place body b n e = rw (← b, ← n) e
+moves-of place body is e = e ∙ ap (λ (good : Range). table_check (in_range good.below good.none) place body) is
 
 pub returns-then-parts-at : goal.returns-then-parts-at
 unfolding rule_from number_of
 returns-then-parts-at c =
-    refusal-at c.at.ensures.number c.at.ensures.place
+    refusal-at c.at.ensures
     ∙ sym (letters-wrong (parts_rule c.args.parts) c.of-at.ensures c.if-parts-at.true)
 
 pub returns-then-parts-at-2 : goal.returns-then-parts-at-2
 unfolding rule_from number_of
 returns-then-parts-at-2 c =
-    refusal-at c.at-then-parts-at-2.ensures.number c.at-then-parts-at-2.ensures.place
+    refusal-at c.at-then-parts-at-2.ensures
     ∙ sym (trees-wrong (parts_rule c.args.parts) c.of-at.ensures c.if-parts-at.false c.if-parts-at-2.true)
 
 pub returns-then-parts-rule : goal.returns-then-parts-rule
 unfolding rule_from number_of
 returns-then-parts-rule c =
-    refusal-at c.at-then-parts-rule.ensures.number c.at-then-parts-rule.ensures.place
+    refusal-at c.at-then-parts-rule.ensures
     ∙ sym (classes-wrong (parts_rule c.args.parts) c.of-at.ensures c.if-parts-at.false c.if-parts-at-2.false c.if-parts-rule.true)
 
 pub returns-in_err-table_check : goal.returns-in_err-table_check
@@ -86,7 +86,7 @@ returns-in_err-table_check c =
     let moves = c.moves-moves.ensures in
     handed_on _ _ c.from_residual.ensures.1
     ∙ sym (lengths-right (parts_rule c.args.parts) c.of-at.ensures c.if-parts-at.false c.if-parts-at-2.false c.if-parts-rule.false
-    ∙ and_then-err _ _ (moves-of _ _ moves.below moves.none c.in_err-table_check.ensures))
+    ∙ and_then-err _ _ (moves-of _ _ moves c.in_err-table_check.ensures))
 
 pub overflow_add-at : goal.overflow_add-at
 unfolding file_length class_record tree_record letter_record
@@ -102,8 +102,8 @@ returns-in_err-table_check-2 c =
     let moves = c.moves-moves.ensures in
     handed_on _ _ c.from_residual-in_err-table_check-2.ensures.1
     ∙ sym (lengths-right (parts_rule c.args.parts) c.of-at.ensures c.if-parts-at.false c.if-parts-at-2.false c.if-parts-rule.false
-    ∙ and_then-ok _ (moves-of _ _ moves.below moves.none c.in_ok-table_check.ensures)
-    ∙ and_then-err _ _ (moves-of _ _ moves.below moves.none c.in_err-table_check-2.ensures))
+    ∙ and_then-ok _ (moves-of _ _ moves c.in_ok-table_check.ensures)
+    ∙ and_then-err _ _ (moves-of _ _ moves c.in_err-table_check-2.ensures))
 
 pub overflow_add-at-2 : goal.overflow_add-at-2
 unfolding file_length class_record tree_record letter_record
@@ -119,5 +119,5 @@ returns c =
     let moves = c.moves-moves.ensures in
     c.table_check-3.ensures
     ∙ sym (lengths-right (parts_rule c.args.parts) c.of-at.ensures c.if-parts-at.false c.if-parts-at-2.false c.if-parts-rule.false
-    ∙ and_then-ok _ (moves-of _ _ moves.below moves.none c.in_ok-table_check.ensures)
-    ∙ and_then-ok _ (moves-of _ _ moves.below moves.none c.in_ok-table_check-2.ensures))
+    ∙ and_then-ok _ (moves-of _ _ moves c.in_ok-table_check.ensures)
+    ∙ and_then-ok _ (moves-of _ _ moves c.in_ok-table_check-2.ensures))

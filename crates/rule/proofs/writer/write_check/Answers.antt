@@ -1,7 +1,7 @@
 -- The check in its stages: the four numbers, the tables, the room.
 use Rattle.std.proofs.Common.{sym, ap, ◌∙◌, arith}
 use borrow.Author.Tests.{lt-ltb, le-ltb}
-use Rattle.meaning.specs.Answers.{given}
+use Rattle.meaning.specs.Answers.{given, refused}
 use Rattle.meaning.specs.Calls.{says, number_of}
 use Rattle.meaning.proofs.laws.Answered.{refuse-passes, refuse-stops}
 use Rattle.meaning.proofs.laws.Handed.{refusal-at, handed_on, and_then-ok, and_then-err}
@@ -26,7 +26,8 @@ returns-in_err-given_check c =
 pub returns-then-room-count : goal.returns-then-room-count
 unfolding rule_from after_given given_check number_of
 returns-then-room-count c =
-    refusal-at c.at.ensures.number (c.at.ensures.place ∙ c.of-count.ensures.count)
+    refusal-at c.at.ensures
+    ∙ ap (refused 14) c.of-count.ensures.count
     ∙ sym (write-stages (parts_rule c.args.parts) c.args.room
     ∙ and_then-ok _ c.in_ok-numbers_check.ensures
     ∙ and_then-ok _ c.in_ok-given_check.ensures

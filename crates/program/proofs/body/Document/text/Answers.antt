@@ -13,7 +13,7 @@ returns-in-None c =
     let d = c.args.self in
     λ input bytes rest read.
     c.refused_text.ensures.says_line
-    ∙ rw (c.at.ensures.number, c.at.ensures.place)
+    ∙ rw c.at.ensures
     (after-prints d.file.now d.book.now d.size c.args.body.now input bytes rest read (read.took.when_after (rw c.in-None.is refl)))
 
 pub returns-in-Some : goal.returns-in-Some
@@ -26,7 +26,7 @@ returns-in-Some c =
     let counted : c.in-Some.taken ≡ length bytes = cc in
     let less : length bytes < d.size = omega (arith, counted, c.if-taken-whole.true) in
     c.refused_text-in-Some.ensures.says_line
-    ∙ rw (c.at-in-Some.ensures.number, c.at-in-Some.ensures.place, counted)
+    ∙ rw (c.at-in-Some.ensures, counted)
     (cut-prints d.file.now d.book.now d.size c.args.body.now input bytes rest read (read.all_read some) less)
 
 pub returns-in-Some-2 : goal.returns-in-Some-2
