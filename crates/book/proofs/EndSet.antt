@@ -9,9 +9,10 @@ use native.Mathlib.Omega.{arith}
 use lib.Bits.{bit_xor}
 use Rattle.std.proofs.Math.Bool.{and-or_distrib_right}
 use lib.ListN.{get_or}
+use Rattle.std.proofs.lemmas.Bool.{or_right}
+use Rattle.std.specs.Cmp.Derive.{one_truth}
 use Rattle.meaning.specs.RuleFile.{Rule, IsRule, tree_move, tree_start_move}
 use Rattle.meaning.specs.SkipBook.{any_below, marked, goes_to, one_move, rounds, start_marks, end_round, ends_in, end_marks, adds, word_of, bit}
-use Rattle.meaning.proofs.laws.Truths.{same_truth, or_true_right}
 use Rattle.meaning.proofs.laws.Bools.{any-below-same, any-below-fails}
 use Rattle.meaning.proofs.skipbook.Reaching.{ends-below}
 use Rattle.meaning.proofs.skipbook.Rounds.{most-states, goes_to_lem, goes-true, end-keeps, end-alike, start-true, start-is-marked, start-length, marked-ends, ends-never-used-up}
@@ -40,7 +41,7 @@ moves-same R lowers lowers' moves e good q h =
 -- some number passes one test or the other
 either-of-two : (a b c d : Bool) → ((a || b) || (c || d)) ≡ ((a || c) || (b || d))
 either-of-two true b c d = refl
-either-of-two false true c d = sym (or_true_right c refl)
+either-of-two false true c d = sym (or_right c _ refl)
 either-of-two false false c d = refl
 
 any-either : (n : ℕ) (f g : ℕ → Bool) → any_below n (λ i. f i || g i) ≡ (any_below n f || any_below n g)
@@ -100,7 +101,7 @@ module _ (R : Rule) (rule : IsRule R) where
   unfolding ends_word ends_in rounds
   first-end-word first small s =
       stands_word first (start_marks R) small (omega (arith, start-length R, most-states rule))
-      (stands-as first _ _ (λ p h. same_truth _ _ (λ t. start-is-marked R rule (goes-true p _ t)) (λ m. goes_to_lem p (start-true R p m))) s)
+      (stands-as first _ _ (λ p h. one_truth _ _ (λ t. start-is-marked R rule (goes-true p _ t)) (λ m. goes_to_lem p (start-true R p m))) s)
 
   module _ (first : ℕ) (is : first ≡ ends_word R 0) where
     pub first-states : StatesOf R.states first

@@ -35,7 +35,7 @@ pub fn rule_checks(rt: &impl Print) -> io::Result<()> {
         ("257 letters", 10, 1),
         ("a letter move of n", 18, 3),
         ("a tree move of n", 30, 3),
-        ("a class of none", 45, 255),
+        ("a class of none", 45, Rule::NONE),
     ];
     for (name, place, byte) in changes {
         lines::checked(rt, name, Rule::of_file(&changed(place, byte)))?;

@@ -4,7 +4,7 @@ use rule::Rule;
 use std::{fmt, io};
 
 // What a call gave that was not refused.
-#[derive(Clone, Copy)]
+#[derive(Clone, Copy, Debug, PartialEq, Eq)]
 pub enum Given {
     Fine(Rule),
     Bytes(usize),
@@ -30,7 +30,7 @@ impl fmt::Display for Given {
 }
 
 // What a call answered: what it gave, or the number and the place of its refusal.
-#[derive(Clone, Copy)]
+#[derive(Clone, Copy, Debug, PartialEq, Eq)]
 struct Answer(Result<Given, Refusal>);
 
 impl fmt::Display for Answer {

@@ -9,7 +9,7 @@ use std::io;
 pub const ENOUGH: usize = 1024;
 
 // What feed answered, and finish after it over the same levels.
-#[derive(Clone, Copy)]
+#[derive(Clone, Copy, Debug, PartialEq, Eq)]
 pub struct Outcome {
     pub fed: Fed,
     pub end: Result<Judgement, Refusal>,

@@ -41,6 +41,7 @@ pub extern "C" fn venticapro_check_rule(file: &[u8], answer: &mut [u64]) -> bool
 }
 
 // The writer: the count of bytes, which lie in the output.
+// A rule's numbers and tables are parameters in the C interface, of venticapro_write_rule.
 #[unsafe(no_mangle)]
 pub extern "C" fn venticapro_write_rule(
     states: u8,

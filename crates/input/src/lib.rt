@@ -58,6 +58,7 @@ pub fn decode(bytes: &[u8], events: &mut [u16]) -> usize
     ensures events { events.new ≡ decoded result bytes.now events.old }
 {
     let count = (bytes.len() / 2).min(events.len());
+    // By the index: after a `zip` of `iter_mut` nothing is known of the slots, and number2 reads both bytes, here as in the header.
     for (i, event) in events[..count].iter_mut().enumerate() {
         *event = check::number2(bytes, i * 2);
     }

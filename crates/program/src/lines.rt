@@ -22,7 +22,7 @@ impl Text {
         ensures { Lays self.old (line_bytes [] (refused r.number r.place)) self.new }
     {
         self.word(b" refused");
-        self.spaced(r.number as u64);
+        self.spaced(u64::from(r.number));
         self.spaced(r.place as u64);
         self.put(b'\n');
     }
@@ -44,13 +44,14 @@ impl Text {
         ensures { Lays self.old (line_bytes [] (judged_line j reading)) self.new }
     {
         self.verdict(j.verdict);
-        self.spaced(j.state as u64);
-        self.spaced(reading.taken as u64);
-        self.spaced(reading.looks as u64);
+        self.spaced(u64::from(j.state));
+        self.spaced(u64::from(reading.taken));
+        self.spaced(u64::from(reading.looks));
         self.put(b'\n');
     }
 
     // The line of one reading.
+    // Names are bytes, as the definition's line_bytes has them.
     pub(crate) fn line(&mut self, name: &[u8], end: Result<Judgement, Refusal>, reading: Reading)
         ensures { Lays self.old (line_bytes name.now (line_says end reading)) self.new }
     {

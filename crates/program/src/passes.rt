@@ -7,7 +7,7 @@ ghost use Rattle.program.specs.Passes.{pass_says, fed_on};
 
 use meaning::{Judgement, Level, Reading, Refusal};
 
-// The largest ceiling, and the levels of a pass.
+// The largest ceiling, and the levels of a pass. Its own const, since reading exports none.
 const CEILING: u32 = u32::MAX;
 
 const LEVELS: usize = 1024;
@@ -43,6 +43,7 @@ impl Pass {
     }
 
     // More events.
+    // File and book are lent to each call: the two passes differ in the book.
     pub fn go_on(&mut self, file: &[u8], book: &[u64], events: &[u16])
         ensures { pass_says self.new ≡ fed_on file.now book.now (pass_says self.old) events.now }
     {

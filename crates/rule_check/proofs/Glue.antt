@@ -21,6 +21,7 @@ use Rattle.program.specs.declared.body.Body.{Body}
 use Rattle.program.specs.declared.body.Document.{Document}
 use Rattle.program.specs.Bodies.{block_length, program_book, Took, HasRead}
 use Rattle.rule_check.specs.BlockRead.{TookMore, left}
+use Rattle.rule_check.specs.Failing.{LostSome}
 
 -- ---- one block
 
@@ -104,7 +105,7 @@ after-err (Err e) p = p
 
 -- what was taken from a reader before a call that failed, and what that call took
 pub lost-after : {A E : Type 0} (a b c : Option (List ℕ)) (bytes : List ℕ) (r : Result A E) → Consumes a b bytes
-    → OnErr r ((more : List ℕ) × Consumes b c more) → OnErr r ((all : List ℕ) × Consumes a c all)
+    → LostSome b c r → LostSome a c r
 lost-after a b c bytes (Ok x) gave lost = tt
 lost-after a b c bytes (Err e) gave lost = (bytes ++ lost.0, Consumes-trans a b c bytes lost.0 gave lost.1)
 

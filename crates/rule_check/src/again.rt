@@ -5,7 +5,7 @@ use std::io;
 use std::io::ErrorKind;
 
 // How often a step that a signal interrupted is made again. A proved loop has to end; no run uses this up.
-const TRIES: u32 = 0xffff_ffff;
+const TRIES: u32 = u32::MAX;
 
 // Makes a step, and makes it again as long as a signal interrupts it. The step is lent, so that its caller knows what the last one
 // left.

@@ -1,10 +1,11 @@
 // The body of the record of events, read block by block.
-ghost use Rattle.std.specs.Prelude.{◌≡◌, List, ◌++◌, ℕ, ◌≤◌, length, take, IfOk, OnOk, OnErr, IfSome};
+ghost use Rattle.std.specs.Prelude.{◌≡◌, List, ◌++◌, ℕ, ◌≤◌, length, take, IfOk, OnOk, IfSome};
 ghost use Rattle.std.specs.Io.KnownBytes.{Consumes};
 ghost use Rattle.meaning.specs.Answers.{given};
 ghost use Rattle.meaning.specs.CheckProgram.{front_length, front_check, printed};
 ghost use Rattle.program.specs.Bodies.{block_length};
 ghost use Rattle.rule_check.specs.BlockRead.{OneBlock, AllBlocks};
+ghost use Rattle.rule_check.specs.Failing.{LostSome};
 
 use crate::source;
 use input::EventsAt;
@@ -15,6 +16,7 @@ use rule::tables::HEADER;
 use std::io;
 use std::io::Read;
 
+// A block and how much is there: fixed memory, filled in place.
 // One block: what is there already, and as much of the input as it takes. It answers whether there is more to read: a block that
 // is not full is the last, and nothing is read after bytes that come after the record.
 fn one_block<R: Read>(
@@ -27,7 +29,7 @@ fn one_block<R: Read>(
     requires whole_block { length block.old ≡ block_length }
     requires there_within { there ≤ length block.old }
     ensures went { IfOk result (OneBlock document.entry body.old (take there block.old) (R.remaining reader.old) (R.remaining reader.new) body.new) }
-    ensures lost { OnErr result ((bytes : List ℕ) × Consumes (R.remaining reader.old) (R.remaining reader.new) bytes) }
+    ensures lost { LostSome (R.remaining reader.old) (R.remaining reader.new) result }
 {
     let count = source::fill(reader, block, there)?;
     document.take(body, &block[..count]);
@@ -46,7 +48,7 @@ fn read_body<R: Read>(
     requires whole_block { length block.old ≡ block_length }
     requires there_within { there ≤ length block.old }
     ensures went { OnOk result (AllBlocks document.entry body.old (take there block.old) (R.remaining reader.old) (R.remaining reader.new) body.new) }
-    ensures lost { OnErr result ((bytes : List ℕ) × Consumes (R.remaining reader.old) (R.remaining reader.new) bytes) }
+    ensures lost { LostSome (R.remaining reader.old) (R.remaining reader.new) result }
 {
     let mut more = one_block(reader, document, body, block, there)?;
     while more {
@@ -62,7 +64,7 @@ pub fn run<R: Read>(reader: &mut R, front: &[u8], at: EventsAt) -> io::Result<Te
     requires events_there { front_check front.now ≡ given (record { place = at.place; size = at.size }) }
     ensures as_read { IfOk result (λ text. (new : List ℕ) × Consumes (R.remaining reader.old) (R.remaining reader.new) new × (text ≡ printed (front.now ++ new))) }
     ensures as_all { IfOk result (λ text. IfSome (R.remaining reader.old) (λ rest. text ≡ printed (front.now ++ rest))) }
-    ensures lost { OnErr result ((bytes : List ℕ) × Consumes (R.remaining reader.old) (R.remaining reader.new) bytes) }
+    ensures lost { LostSome (R.remaining reader.old) (R.remaining reader.new) result }
 {
     let (file, record) = front.split_at(at.place);
     let opened = body::open(file);

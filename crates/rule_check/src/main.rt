@@ -11,24 +11,25 @@ mod source;
 ghost use Rattle.std.specs.Prelude.{◌≡◌, List, ℕ, IfOk, OnOk, OnErr, IfErr, IfSome, IsOkAnd};
 ghost use Rattle.std.specs.Io.KnownBytes.{Consumes, Keeps, Appends};
 ghost use Rattle.meaning.specs.CheckProgram.{printed};
-ghost use Rattle.rule_check.specs.Failing.{LeftBy};
+ghost use Rattle.rule_check.specs.Failing.{LeftBy, LostSome};
 
 use failure::Failure;
 use program::body;
 use program::text::Text;
+use rule::tables::HEADER;
 use std::io;
 use std::io::{Read, Write};
 use std::process::ExitCode;
 
 // The longest rule file and the header of the record after it.
-const FRONT: usize = 20579;
+const FRONT: usize = 20573 + HEADER;
 
 // Reads an input, as far as it decides the answer, and makes the answer: what is printed for the bytes that were read, and so for
 // all that the reader has, where that is known.
 fn answer<R: Read>(reader: &mut R) -> io::Result<Text>
     ensures as_read { IfOk result (λ text. (input : List ℕ) × Consumes (R.remaining reader.old) (R.remaining reader.new) input × (text ≡ printed input)) }
     ensures as_all { IfOk result (λ text. IfSome (R.remaining reader.old) (λ input. text ≡ printed input)) }
-    ensures lost { OnErr result ((bytes : List ℕ) × Consumes (R.remaining reader.old) (R.remaining reader.new) bytes) }
+    ensures lost { LostSome (R.remaining reader.old) (R.remaining reader.new) result }
 {
     let mut front = [0u8; FRONT];
     let count = source::fill(reader, &mut front, 0)?;

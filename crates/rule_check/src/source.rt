@@ -1,7 +1,8 @@
 // Standard input, read into a buffer until that is full.
-ghost use Rattle.std.specs.Prelude.{◌≡◌, ◌<◌, ◌≤◌, List, ℕ, length, take, drop, IfOk, OnErr};
+ghost use Rattle.std.specs.Prelude.{◌≡◌, ◌<◌, ◌≤◌, List, ℕ, length, take, drop, IfOk};
 ghost use Rattle.std.specs.Io.{ReadsAtMost};
 ghost use Rattle.std.specs.Io.KnownBytes.{Consumes, IsAtEnd, ReadConsumes};
+ghost use Rattle.rule_check.specs.Failing.{LostSome};
 
 use crate::again::again;
 use std::io;
@@ -25,7 +26,7 @@ pub fn fill<R: Read>(reader: &mut R, buffer: &mut [u8], from: usize) -> io::Resu
     ensures buffer_unchanged { take from buffer.new ≡ take from buffer.old }
     ensures read { IfOk result (λ count. Consumes (R.remaining reader.old) (R.remaining reader.new) (drop from (take count buffer.new))) }
     ensures end { IfOk result (λ count. count < length buffer.old → IsAtEnd (R.remaining reader.new)) }
-    ensures lost { OnErr result ((bytes : List ℕ) × Consumes (R.remaining reader.old) (R.remaining reader.new) bytes) }
+    ensures lost { LostSome (R.remaining reader.old) (R.remaining reader.new) result }
 {
     let mut at = from;
     while at < buffer.len() {

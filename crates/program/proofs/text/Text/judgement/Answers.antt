@@ -8,4 +8,5 @@ pub returns : goal.returns
 unfolding line_end line_bytes line_of judged_line
 returns c =
     lays-then c.verdict.ensures
-    (lays-then c.spaced.ensures (lays-then c.spaced-2.ensures (lays-then c.spaced-3.ensures c.put.ensures)))
+    (lays-then (rw c.from.ensures at c.spaced.ensures)
+    (lays-then (rw c.from-2.ensures at c.spaced-2.ensures) (lays-then (rw c.from-3.ensures at c.spaced-3.ensures) c.put.ensures)))
