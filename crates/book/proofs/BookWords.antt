@@ -9,14 +9,15 @@ use native.Mathlib.Omega.{arith}
 use lib.Bits.{bit_and}
 use lib.ListN.{length, get_or, take}
 use borrow.Author.Tests.{eqb-true, eq-eqb, not-true}
+use Rattle.std.proofs.lemmas.Bool.{and_from, and_parts, cases_Bool}
+use Rattle.std.specs.Cmp.Derive.{one_truth}
 use Rattle.meaning.specs.Answers.{◌=?◌}
 use Rattle.meaning.specs.RuleFile.{Rule, IsRule, tree_move, rule_of}
 use Rattle.rule.specs.declared.Rule as numbers
 use Rattle.rule.specs.Says.{RuleOf}
 use Rattle.meaning.proofs.rulefile.Accepted.{accepted-is-rule}
 use Rattle.meaning.specs.SkipBook.{all_below, listed, marked, none_or, reach_marks, still_marks, hold_marks, book_of, word_of, bit}
-use Rattle.meaning.proofs.laws.Answered.{and-true, both_true}
-use Rattle.meaning.proofs.laws.Truths.{truth, same_truth, true-is-not-false, implied, implies}
+use Rattle.meaning.proofs.laws.Truths.{true-is-not-false, implied, implies}
 use Rattle.meaning.proofs.laws.Bools.{all-below, below_all, listed-length, listed_same}
 use Rattle.meaning.proofs.skipbook.Marks.{marked-true, marked-below}
 use Rattle.meaning.proofs.skipbook.Rounds.{most-states, start-marked}
@@ -30,7 +31,7 @@ use Rattle.book.proofs.InRounds.{reached-below, reached-last}
 pub first-word-of : (w n : ℕ) (test : ℕ → Bool) → w < 2 ^ 64 → n ≤ 64 → StandsFor w (first_of n test) → w ≡ word_of (listed n test)
 first-word-of w n test small few s =
     stands_word w (listed n test) small (omega (arith, listed-length n test))
-    (stands-as w _ _ (λ p h. same_truth (first_of n test p) (marked (listed n test) p)
+    (stands-as w _ _ (λ p h. one_truth (first_of n test p) (marked (listed n test) p)
     (λ t. let b = first-true n test p t in marked-below n test p b.0 ∙ b.1)
     (λ m. let b = marked-true n test p m in first-in n test p b.0 b.1)) s)
 
@@ -50,11 +51,11 @@ module _ (R : Rule) (rule : IsRule R) (q : ℕ) (start : q < R.states) where
   pub still-test : (reached_word R 64 q =? 2 ^ q) ≡ all_below R.states (λ p. not (marked (reach_marks R q) p) || p =? q)
   unfolding word reach_marks
   still-test =
-      same_truth (word =? 2 ^ q) _
+      one_truth (word =? 2 ^ q) _
       (λ t. below_all R.states _ (λ p h. implies (marked (reach_marks R q) p) (p =? q) (λ m.
       let b : bit (2 ^ q) p ≡ true = ap (λ (w : ℕ). bit w p) (sym (eqb-true word (2 ^ q) t)) ∙ word-bit p ∙ m in
       eq-eqb p q (sym (eqb-true q p (sym (bit-only q p) ∙ b))))))
-      (λ a. eq-eqb word (2 ^ q) (same_bits word (2 ^ q) (λ p. same_truth (bit word p) (bit (2 ^ q) p)
+      (λ a. eq-eqb word (2 ^ q) (same_bits word (2 ^ q) (λ p. one_truth (bit word p) (bit (2 ^ q) p)
       (λ b. let m = sym (word-bit p) ∙ b in
       bit-only q p ∙ eq-eqb q p (sym (eqb-true p q (implied (marked (reach_marks R q) p) _ (all-below R.states _ a p (marked-state p m)) m))))
       (λ b. word-bit p ∙ ap (marked (reach_marks R q)) (sym (eqb-true q p (sym (bit-only q p) ∙ b))) ∙ start-marked R 64 q start))))
@@ -68,13 +69,13 @@ module _ (R : Rule) (rule : IsRule R) (q : ℕ) (start : q < R.states) where
     pub hold-test : (bit_and (reached_word R 64 q) change =? 0) ≡ all_below R.states (λ p. not (marked (reach_marks R q) p) || none_or u (tree_move R u p))
     unfolding word changing
     hold-test =
-        same_truth (bit_and word change =? 0) _
+        one_truth (bit_and word change =? 0) _
         (λ t. below_all R.states _ (λ p h. implies (marked (reach_marks R q) p) (none_or u (tree_move R u p)) (λ m.
         let empty : bit (bit_and word change) p ≡ false = ap (λ (w : ℕ). bit w p) (eqb-true (bit_and word change) 0 t) ∙ bit-zero p in
-        ⊎_elim (λ y. y) (λ n. true-is-not-false (bit-and word change p ∙ both_true (word-bit p ∙ m)
-        (changing-at p h ∙ first-in R.states _ p h (ap not n))) empty) (truth (none_or u (tree_move R u p))))))
-        (λ a. eq-eqb (bit_and word change) 0 (same_bits (bit_and word change) 0 (λ p. same_truth (bit (bit_and word change) p) (bit 0 p)
-        (λ b. let both = and-true (bit word p) (bit change p) (sym (bit-and word change p) ∙ b) in
+        ⊎_elim (λ y. y) (λ n. true-is-not-false (bit-and word change p ∙ and_from _ _ (word-bit p ∙ m)
+        (changing-at p h ∙ first-in R.states _ p h (ap not n))) empty) (cases_Bool (none_or u (tree_move R u p))))))
+        (λ a. eq-eqb (bit_and word change) 0 (same_bits (bit_and word change) 0 (λ p. one_truth (bit (bit_and word change) p) (bit 0 p)
+        (λ b. let both = and_parts (bit word p) (bit change p) (sym (bit-and word change p) ∙ b) in
         let m = sym (word-bit p) ∙ both.0 in
         let h = marked-state p m in
         true-is-not-false (implied (marked (reach_marks R q) p) _ (all-below R.states _ a p h) m)

@@ -7,10 +7,12 @@ use mathlib.Core.List.{List, []}
 use Prim.Native.Nat.{ℕ, zero, suc, ◌^◌, ◌≤◌, ◌<◌}
 use native.Mathlib.Omega.{arith}
 use lib.Bits.{bit_xor}
+use Rattle.std.proofs.Math.Bool.{and-or_distrib_right}
 use lib.ListN.{get_or}
+use Rattle.std.proofs.lemmas.Bool.{or_right}
+use Rattle.std.specs.Cmp.Derive.{one_truth}
 use Rattle.meaning.specs.RuleFile.{Rule, IsRule, tree_move, tree_start_move}
 use Rattle.meaning.specs.SkipBook.{any_below, marked, goes_to, one_move, rounds, start_marks, end_round, ends_in, end_marks, adds, word_of, bit}
-use Rattle.meaning.proofs.laws.Truths.{same_truth, or_true_right}
 use Rattle.meaning.proofs.laws.Bools.{any-below-same, any-below-fails}
 use Rattle.meaning.proofs.skipbook.Reaching.{ends-below}
 use Rattle.meaning.proofs.skipbook.Rounds.{most-states, goes_to_lem, goes-true, end-keeps, end-alike, start-true, start-is-marked, start-length, marked-ends, ends-never-used-up}
@@ -39,7 +41,7 @@ moves-same R lowers lowers' moves e good q h =
 -- some number passes one test or the other
 either-of-two : (a b c d : Bool) → ((a || b) || (c || d)) ≡ ((a || c) || (b || d))
 either-of-two true b c d = refl
-either-of-two false true c d = sym (or_true_right c refl)
+either-of-two false true c d = sym (or_right c _ refl)
 either-of-two false false c d = refl
 
 any-either : (n : ℕ) (f g : ℕ → Bool) → any_below n (λ i. f i || g i) ≡ (any_below n f || any_below n g)
@@ -47,13 +49,6 @@ unfolding any_below
 any-either zero f g = refl
 any-either (suc n) f g =
     ap (λ (b : Bool). b || (f n || g n)) (any-either n f g) ∙ either-of-two (any_below n f) (any_below n g) (f n) (g n)
-
--- a move whose lower state is among some, or among more
-either-move : (a b c : Bool) → ((a || b) && c) ≡ (a && c || (b && c))
-either-move true b true = refl
-either-move true true false = refl
-either-move true false false = refl
-either-move false b c = refl
 
 -- with the tree moves of more lower states a table is one for these lower states too
 more-moves : (R : Rule) (lowers lowers' : List Bool) (table more : List ℕ) (added : ℕ) → Moves R lowers table → WithTrees R added table more
@@ -66,7 +61,7 @@ more-moves R lowers lowers' table more added good grown either q h p l =
     ∙ ap (λ (b : Bool). by_letters R q p || b)
     (sym (any-either R.states (λ lower. marked lowers lower && goes_to p (tree_move R q lower)) (λ lower. bit added lower && goes_to p (tree_move R q lower)))
     ∙ any-below-same R.states _ _ (λ lower k. sym (ap (λ (b : Bool). b && goes_to p (tree_move R q lower)) (either lower)
-    ∙ either-move (marked lowers lower) (bit added lower) (goes_to p (tree_move R q lower)))))
+    ∙ and-or_distrib_right (marked lowers lower) (bit added lower) (goes_to p (tree_move R q lower)))))
 
 -- ---- where two words differ
 
@@ -106,7 +101,7 @@ module _ (R : Rule) (rule : IsRule R) where
   unfolding ends_word ends_in rounds
   first-end-word first small s =
       stands_word first (start_marks R) small (omega (arith, start-length R, most-states rule))
-      (stands-as first _ _ (λ p h. same_truth _ _ (λ t. start-is-marked R rule (goes-true p _ t)) (λ m. goes_to_lem p (start-true R p m))) s)
+      (stands-as first _ _ (λ p h. one_truth _ _ (λ t. start-is-marked R rule (goes-true p _ t)) (λ m. goes_to_lem p (start-true R p m))) s)
 
   module _ (first : ℕ) (is : first ≡ ends_word R 0) where
     pub first-states : StatesOf R.states first

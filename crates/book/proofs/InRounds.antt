@@ -11,11 +11,12 @@ use native.Mathlib.Omega.{arith}
 use lib.ListN.{length, get_or}
 use lib.Pow.{pow-lt}
 use borrow.Author.Tests.{eqb-true, eq-eqb}
+use Rattle.std.proofs.lemmas.Bool.{and_from, and_parts, cases_Bool, or_cases, or_left, or_right}
+use Rattle.std.specs.Cmp.Derive.{one_truth}
 use Rattle.meaning.specs.Answers.{◌=?◌}
 use Rattle.meaning.specs.RuleFile.{Rule, IsRule}
 use Rattle.meaning.specs.SkipBook.{marked, round, rounds, end_marks, only_state, reached_in, adds, word_of, bit}
-use Rattle.meaning.proofs.laws.Answered.{and-true, both_true}
-use Rattle.meaning.proofs.laws.Truths.{truth, same_truth, or_cases, or-true-left, or_true_right, never_both}
+use Rattle.meaning.proofs.laws.Truths.{never_both}
 use Rattle.meaning.proofs.laws.Bools.{below-any, any_below_lem, any-below-fails}
 use Rattle.meaning.proofs.skipbook.Reaching.{reach-below}
 use Rattle.meaning.proofs.skipbook.Rounds.{most-states, one_below, round_keeps, round-adds, round_by, round-length, nothing-added, reach-keeps, reach-alike, reach-never-used-up, marked-reached, reached-first, reached-next, only-true, only-start, only-length}
@@ -37,7 +38,7 @@ module _ (R : Rule) (rule : IsRule R) (lowers marks : List Bool) (moves : List �
   there p h e = ⊎_elim
       (λ t. let m = sym (bit_word marks p) ∙ t in round_keeps R lowers marks p (low p m) m)
       (λ t. let s = any_below_lem 64 (λ m. bit (word_of marks) m && bit (get_or moves m 0) p) t in
-      let b = and-true (bit (word_of marks) s.0) _ s.2 in
+      let b = and_parts (bit (word_of marks) s.0) _ s.2 in
       let m = sym (bit_word marks s.0) ∙ b.0 in
       let one = sym (good s.0 (low s.0 m) p h) ∙ b.1 in
       round-adds R lowers marks s.0 p (low s.0 m) (one_below R lowers rule s.0 p one) m one)
@@ -46,16 +47,16 @@ module _ (R : Rule) (rule : IsRule R) (lowers marks : List Bool) (moves : List �
   back : (p : ℕ) → p < 64 → marked (round R lowers marks) p ≡ true → joined moves (word_of marks) p ≡ true
   unfolding joined Moves StandsFor
   back p h e = round_by R lowers marks p e
-      (λ m. or-true-left _ (bit_word marks p ∙ m))
-      (λ q m one. or_true_right (bit (word_of marks) p)
+      (λ m. or_left _ _ (bit_word marks p ∙ m))
+      (λ q m one. or_right (bit (word_of marks) p) _
       (below-any 64 (λ s. bit (word_of marks) s && bit (get_or moves s 0) p) q (omega (arith, low q m, most-states rule))
-      (both_true (bit_word marks q ∙ m) (good q (low q m) p h ∙ one))))
+      (and_from _ _ (bit_word marks q ∙ m) (good q (low q m) p h ∙ one))))
 
   -- the word joined over its members is the word of the next round
   pub next_word : (next : ℕ) → next < 2 ^ 64 → StandsFor next (joined moves (word_of marks)) → next ≡ word_of (round R lowers marks)
   next_word next small s =
       stands_word next (round R lowers marks) small (omega (arith, round-length R lowers marks, most-states rule))
-      (stands-as next _ _ (λ p h. same_truth _ _ (there p h) (back p h)) s)
+      (stands-as next _ _ (λ p h. one_truth _ _ (there p h) (back p h)) s)
 
 -- ---- rounds of any kind that keep the marks, where only states are marked
 
@@ -71,7 +72,7 @@ module _ (R : Rule) (step : List Bool → List Bool)
   unfolding rounds
   word-stays i e =
       word-of (word_of (after (suc i))) (after i) (λ p. bit_word (after (suc i)) p
-      ∙ same_truth _ _ (λ m. nothing-added R (after i) (after (suc i)) e p (low (suc i) p m) m) (λ m. keeps (after i) p (low i p m) m))
+      ∙ one_truth _ _ (λ m. nothing-added R (after i) (after (suc i)) e p (low (suc i) p m) m) (λ m. keeps (after i) p (low i p m) m))
 
   next-same : (i j : ℕ) → word_of (after i) ≡ word_of (after j) → word_of (after (suc i)) ≡ word_of (after (suc j))
   unfolding rounds
@@ -91,7 +92,7 @@ module _ (R : Rule) (step : List Bool → List Bool)
         (same-marks (after (suc i)) (after i) (sym then ∙ e ∙ before) p) ∙ never_both (marked (after i) p))
 
     pub other-adds : (next ≡ set → ⊥) → adds R (after i) (after (suc i)) ≡ true
-    other-adds ne = ⊎_elim (λ t. t) (λ f. absurd (ne (then ∙ word-stays i f ∙ sym before))) (truth (adds R (after i) (after (suc i))))
+    other-adds ne = ⊎_elim (λ t. t) (λ f. absurd (ne (then ∙ word-stays i f ∙ sym before))) (cases_Bool (adds R (after i) (after (suc i))))
 
 -- ---- Reach
 
@@ -113,7 +114,7 @@ module _ (R : Rule) (rule : IsRule R) (q : ℕ) (start : q < R.states) where
       let few : length (only_state R q) ≤ 64 = omega (arith, only-length R q, most-states rule) in
       let small : 2 ^ q < 2 ^ 64 = pow-lt {j = 64} (omega (arith, most-states rule)) in
       stands_word (2 ^ q) (only_state R q) small few
-      (stands-as (2 ^ q) _ _ (λ p h. same_truth (q =? p) (marked (only_state R q) p)
+      (stands-as (2 ^ q) _ _ (λ p h. one_truth (q =? p) (marked (only_state R q) p)
       (λ t. ap (marked (only_state R q)) (sym (eqb-true q p t)) ∙ only-start R q start)
       (λ m. eq-eqb q p (sym (only-true R q p m)))) (stands-only q))
       ∙ ap word_of (sym (reached-first R q))

@@ -7,10 +7,10 @@ use Prim.Native.Nat.{ℕ, ◌+◌, ◌^◌, ◌≤◌, ◌<◌}
 use native.Mathlib.Numerals.{add-one}
 use native.Mathlib.Omega.{arith}
 use lib.ListN.{get_or}
+use Rattle.std.proofs.lemmas.Bool.{or_from, or_left, or_right}
 use Rattle.meaning.specs.RuleFile.{Rule, IsRule, rule_of}
 use Rattle.meaning.specs.SkipBook.{end_marks, ends_in, reached_in, adds, rounds_used_up}
 use Rattle.meaning.proofs.rulefile.Accepted.{accepted-is-rule}
-use Rattle.meaning.proofs.laws.Truths.{or-true-left, or_true_right, both_false}
 use Rattle.meaning.proofs.laws.Bools.{below-any, any-below-fails}
 use Rattle.rule.specs.declared.Rule as numbers
 use Rattle.rule.specs.Says.{RuleOf}
@@ -56,7 +56,7 @@ module _ {file : List ℕ} {rule : numbers.Rule} (ok : RuleOf file rule) {set : 
 
     pub used-up-by-ends : (next ≡ set → ⊥) → rounds_used_up R ≡ true
     unfolding rounds_used_up
-    used-up-by-ends ne = or-true-left _ (last-end-other R is-rule set moves ends next small s ne)
+    used-up-by-ends ne = or_left _ _ (last-end-other R is-rule set moves ends next small s ne)
 
   module _ (reach : List ℕ) (reached : Reached R 63 reach) where
     module _ (q : ℕ) (state : q < rule.states) (next : ℕ) (small : next < 2 ^ 64) (s : StandsFor next (joined moves (get_or reach q 0))) where
@@ -73,11 +73,11 @@ module _ {file : List ℕ} {rule : numbers.Rule} (ok : RuleOf file rule) {set : 
       pub used-up-by-reach : (next ≡ get_or reach q 0 → ⊥) → rounds_used_up R ≡ true
       unfolding rounds_used_up
       used-up-by-reach ne =
-          or_true_right (adds R (ends_in R 63) (ends_in R 64)) (below-any R.states (λ p. adds R (reached_in R 63 p) (reached_in R 64 p)) q (start q state)
+          or_right (adds R (ends_in R 63) (ends_in R 64)) _ (below-any R.states (λ p. adds R (reached_in R 63 p) (reached_in R 64 p)) q (start q state)
           (reached-other R is-rule q (start q state) (get_or reach q 0) next before last-word ne))
 
     pub rounds-suffice : (next : ℕ) → next < 2 ^ 64 → StandsFor next (joined moves set) → next ≡ set
         → ((q : ℕ) → q < rule.states → adds R (reached_in R 63 q) (reached_in R 64 q) ≡ false) → rounds_used_up R ≡ false
     unfolding rounds_used_up
     rounds-suffice next small s e none =
-        both_false (ends-same next small s e) (any-below-fails R.states _ (λ q h. none q (omega (arith, states-are ok))))
+        or_from _ _ (ends-same next small s e) (any-below-fails R.states _ (λ q h. none q (omega (arith, states-are ok))))

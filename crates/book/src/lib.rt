@@ -26,7 +26,7 @@ pub fn make_book(rule: CheckedRule, book: &mut [u64]) -> Result<u32, Refusal>
     ensures answer { says result ≡ make_book (rule_of rule.entry.file.now) book.old }
     ensures book_after { book.new ≡ book_after (make_book (rule_of rule.entry.file.now) book.old) (rule_of rule.entry.file.now) book.old }
 {
-    if book.len() <= rule.rule.states as usize {
+    if book.len() <= usize::from(rule.rule.states) {
         return Err(Reason::BookTooShort.at(0));
     }
     let reach = Reach::of(TreeEnds::of(rule));

@@ -59,7 +59,7 @@ pub fn with_trees(rule: CheckedRule, table: &[u64; 64], lowers: u64) -> [u64; 64
     ensures { WithTrees (rule_of rule.entry.file.now) lowers table.now result }
 {
     table_of(rule.rule.states, |upper| {
-        table[upper as usize] | by_trees(rule, upper, lowers)
+        table[usize::from(upper)] | by_trees(rule, upper, lowers)
     })
 }
 

@@ -50,11 +50,8 @@ impl<'a> Reach<'a> {
         if with_members(&ends.moves, ends.set) != ends.set {
             return true;
         }
-        for set in &self.sets[..ends.rule.rule.states as usize] {
-            if with_members(&ends.moves, *set) != *set {
-                return true;
-            }
-        }
-        false
+        self.sets[..usize::from(ends.rule.rule.states)]
+            .iter()
+            .any(|set| with_members(&ends.moves, *set) != *set)
     }
 }

@@ -80,7 +80,7 @@ pub fn table_of<F: Fn(u8) -> u64>(states: u8, set_of: F) -> [u64; 64]
 {
     let mut table = [0; 64];
     for state in 0..states {
-        table[state as usize] = set_of(state);
+        table[usize::from(state)] = set_of(state);
     }
     table
 }
@@ -89,5 +89,5 @@ pub fn table_of<F: Fn(u8) -> u64>(states: u8, set_of: F) -> [u64; 64]
 pub fn with_members(table: &[u64; 64], set: u64) -> u64
     ensures { StandsFor result (joined table.now set) }
 {
-    set | union_of(set, |member| table[member as usize])
+    set | union_of(set, |member| table[usize::from(member)])
 }

@@ -22,6 +22,7 @@ pub struct TreeEnds<'a> {
 impl<'a> TreeEnds<'a> {
     // The set of a round is the lower states of the next: the table gets the tree moves of what a round added, so that each
     // tree move is looked at once at most.
+    // No loop shared with reach_from: here the moves grow with the set.
     pub fn of(rule: CheckedRule<'a>) -> Self
         ensures { result.rule ≡ rule.entry }
     {

@@ -1,5 +1,5 @@
 // The words of the book: still, hold(u) for each state u, and how they are written.
-ghost use Rattle.std.specs.Prelude.{◌≡◌, ◌∷◌, ◌++◌, ◌+◌, ◌≤◌, ◌<◌, length, take, drop};
+ghost use Rattle.std.specs.Prelude.{◌≡◌, ◌++◌, ◌+◌, ◌<◌, length, drop};
 ghost use Rattle.std.specs.Int.Count.{ones};
 ghost use Rattle.meaning.specs.RuleFile.{rule_of};
 ghost use Rattle.meaning.specs.SkipBook.{still_marks, hold_marks, word_of, book_of};
@@ -15,7 +15,7 @@ impl<'a> Reach<'a> {
         ensures { result ≡ word_of (still_marks (rule_of self.now.ends.rule.file.now)) }
     {
         states_with(self.ends.rule.rule.states, |state| {
-            self.sets[state as usize] == only(state)
+            self.sets[usize::from(state)] == only(state)
         })
     }
 
@@ -26,7 +26,7 @@ impl<'a> Reach<'a> {
     {
         let change = changes(self.ends.rule, upper);
         states_with(self.ends.rule.rule.states, |state| {
-            self.sets[state as usize] & change == 0
+            self.sets[usize::from(state)] & change == 0
         })
     }
 
@@ -38,26 +38,18 @@ impl<'a> Reach<'a> {
         table_of(self.ends.rule.rule.states, |upper| self.hold(upper))
     }
 
-    // The book, made in its own room and then written. The answer is how many states are still, counted as the ones in that word.
+    // The book, made in its own room and then written: word 0 is still, and word 1+u is hold(u). The words past them stay. The
+    // answer is how many states are still, counted as the ones in that word.
     pub fn write_book(&self, book: &mut [u64]) -> u32
         requires { self.now.ends.rule.rule.states < length book.old }
         ensures still_count { result ≡ ones (word_of (still_marks (rule_of self.now.ends.rule.file.now))) }
         ensures book_after { book.new ≡ book_of (rule_of self.now.ends.rule.file.now) ++ drop (self.now.ends.rule.rule.states + 1) book.old }
     {
         let still = self.still();
-        write_words(book, still, &self.holds(), self.ends.rule.rule.states);
+        let holds = self.holds();
+        let count = usize::from(self.ends.rule.rule.states);
+        book[0] = still;
+        book[1..1 + count].copy_from_slice(&holds[..count]);
         still.count_ones()
     }
-}
-
-// Word 0 is still, and word 1+u is hold(u). The words past them stay.
-fn write_words(book: &mut [u64], still: u64, holds: &[u64; 64], states: u8)
-    requires few_states { states ≤ 64 }
-    requires room { states < length book.old }
-    requires long { length holds.now ≡ 64 }
-    ensures { book.new ≡ still ∷ (take states holds.now ++ drop (states + 1) book.old) }
-{
-    let count = states as usize;
-    book[0] = still;
-    book[1..1 + count].copy_from_slice(&holds[..count]);
 }

@@ -3,7 +3,6 @@ ghost use Rattle.std.specs.Prelude.{◌≡◌, ◌≤◌, [], ◌∷◌, length}
 ghost use Rattle.meaning.specs.CheckProgram.{decimal};
 ghost use Rattle.program.specs.Texts.{Lays};
 
-use itoa::Buffer;
 use std::marker::Model;
 
 // The bytes that a text has room for.
@@ -65,10 +64,12 @@ impl Text {
         self.word(&[byte]);
     }
 
-    // A number in decimal digits.
+    // A number in decimal digits. By `io::decimal`, since the theorem `decimal-digits` is of its digits.
     pub(crate) fn number(&mut self, n: u64)
         ensures { Lays self.old (decimal n) self.new }
     {
-        self.word(Buffer::new().format(n).as_bytes());
+        let mut digits = [0u8; 20];
+        let count = io::decimal(n, &mut digits);
+        self.word(&digits[..count]);
     }
 }

@@ -42,7 +42,7 @@ fn states_out(states: u8, reading: Reading, levels: &[Level]) -> bool
 fn counts_out(reading: Reading) -> bool
     ensures { result ≡ (levels_past_taken reading || looks_past_taken reading) }
 {
-    (reading.taken as u64) < reading.depth as u64 + reading.skip as u64
+    u64::from(reading.taken) < u64::from(reading.depth) + u64::from(reading.skip)
         || reading.taken < reading.looks
 }
 
@@ -68,7 +68,7 @@ pub fn admit<'a>(
     ensures refuses { IfErr result (λ refusal. reading_answer file.now book.now reading levels.now ≡ refusal_says refusal) }
 {
     let checked = CheckedRule::of_file(file)?;
-    if book.len() <= checked.rule.states as usize {
+    if book.len() <= usize::from(checked.rule.states) {
         return Err(Reason::BookTooShort.at(0));
     }
     if not_reading(checked.rule.states, book, reading, levels) {

@@ -21,7 +21,7 @@ pub fn end_of(rule: CheckedRule, reading: Reading, top: Level) -> Result<Judgeme
     requires { reading.state < rule.rule.states }
     ensures { end_says result ≡ end_of (rule_of rule.entry.file.now) reading top }
 {
-    if 0 < reading.depth as u64 + reading.skip as u64 {
+    if 0 < u64::from(reading.depth) + u64::from(reading.skip) {
         return Err(Reason::LeftOpen.at(open_place(reading, top)));
     }
     let class = tables::class_at(rule.file, rule.rule, reading.state);

@@ -15,6 +15,7 @@ use turning::{Going, Standing};
 
 // All events, turn by turn, until none is left. What a turn stores is laid in the level store, and what the next one reads is
 // read from it. A turn may take many events, so this is no `for` over them.
+// Its parameters are those of feed, with the rule for the file.
 pub fn feed_loop(
     rule: CheckedRule,
     book: &[u64],

@@ -22,7 +22,7 @@ use rule::CheckedRule;
 use store::top_of;
 
 // The largest ceiling.
-const LARGEST_CEILING: u32 = u32::MAX;
+pub const LARGEST_CEILING: u32 = u32::MAX;
 
 // What feeding answers over levels of one's own: the answer, and the levels after it.
 #[derive(Clone, Copy)]
@@ -42,6 +42,7 @@ pub fn open(file: &[u8], book: &mut [u64]) -> Result<Opening, Refusal>
 }
 
 // The reading that opening gave, or five zeros where it refused.
+// Five zeros and no Option: the call promises a reading for every answer.
 #[tactic(auto, unfolding(crate::specs::Whole::opened_reading))]
 pub fn first_of<E: Copy>(opened: Result<Opening, E>) -> Reading
     ensures { result ≡ opened_reading opened }
@@ -50,6 +51,7 @@ pub fn first_of<E: Copy>(opened: Result<Opening, E>) -> Reading
 }
 
 // Feed events to a reading, over the lent level store. The rule check is once a call.
+// Six parameters: the call's own, as document 01 lists them.
 pub fn feed(
     file: &[u8],
     book: &[u64],
@@ -87,6 +89,7 @@ pub fn finish(
 }
 
 // Feed over levels of one's own, for a caller that holds them by value.
+// Six parameters: the call's own, as document 01 lists them.
 pub fn feed_array<const N: usize>(
     file: &[u8],
     book: &[u64],

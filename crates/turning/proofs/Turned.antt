@@ -10,6 +10,7 @@ use Prim.Native.Nat.{ℕ, zero, suc, ◌+◌, ◌-◌, ◌≤◌, ◌<◌}
 use native.Mathlib.Omega.{arith}
 use borrow.Author.Tests.{ne_eqb, leb-true, lt-leb, ltb-true}
 use lib.ListN.{length}
+use Rattle.std.proofs.lemmas.Bool.{and_parts, or_right}
 use Rattle.meaning.specs.Answers.{Answer, given, refuse◌at◌when◌otherwise◌, ◌giving◌, ◌≤?◌, ◌=?◌}
 use Rattle.meaning.specs.RuleFile.{none, most_states, most_letters, class_count, as_move, class_of, is_class, is_states, is_letters, rule_of, to, no_move, tree_start_move}
 use Rattle.meaning.specs.FullReading.{opens, closes, letter, event_of, most_events, known_event, look, looked, new_level, full_turn, Turn, stays, stores, ends}
@@ -17,8 +18,7 @@ use Rattle.meaning.specs.SkipBook.{in_still}
 use Rattle.meaning.specs.Skipping.{held, settled}
 use Rattle.meaning.specs.declared.Reading.{Reading}
 use Rattle.meaning.specs.declared.Level.{Level}
-use Rattle.meaning.proofs.laws.Answered.{and-true, refuse-passes}
-use Rattle.meaning.proofs.laws.Bools.{or_true_right}
+use Rattle.meaning.proofs.laws.Answered.{refuse-passes}
 use Rattle.meaning.proofs.rulefile.Accepted.{accepted-is-rule}
 use Rattle.rule.proofs.Looks.{letter-look, tree-look, class-look}
 use Rattle.rule.specs.Tables.{letter_byte, tree_byte, class_byte, table_says, move_in}
@@ -78,7 +78,7 @@ letter-is (suc (suc a)) h = ap letter (omega arith)
 
 pub held-settled : (book : List ℕ) (r : Reading) (top : Level) → held book r top ≡ true → settled book r top ≡ true
 unfolding settled
-held-settled book r top is = or_true_right (in_still book r.state) is
+held-settled book r top is = or_right (in_still book r.state) _ is
 
 or-none : (a : Bool) {b : Bool} → b ≡ false → (a || b) ≡ a
 or-none true e = refl
@@ -112,14 +112,14 @@ module _ {file : List ℕ} {rule : Rule} (h : RuleOf file rule) where
   unfolding is_states
   few-states =
       let n : ℕ = (rule_of file).states in
-      let in-range = and-true (1 ≤? n) (n ≤? most_states) (accepted-is-rule file h.accepted).states_in in
+      let in-range = and_parts (1 ≤? n) (n ≤? most_states) (accepted-is-rule file h.accepted).states_in in
       omega (arith, states-are, leb-true n most_states in-range.1)
 
   pub few-letters : rule.letters ≤ 256
   unfolding is_letters
   few-letters =
       let k : ℕ = (rule_of file).letters in
-      let in-range = and-true (1 ≤? k) (k ≤? most_letters) (accepted-is-rule file h.accepted).letters_in in
+      let in-range = and_parts (1 ≤? k) (k ≤? most_letters) (accepted-is-rule file h.accepted).letters_in in
       omega (arith, letters-are, leb-true k most_letters in-range.1)
 
   -- ---- the class of a state is the one in the file, and one of the three

@@ -46,6 +46,7 @@ impl<'a> Standing<'a> {
 
     // One turn: what can be passed over where the reading stands is taken at once, and then the next event, if one is left. The
     // book is asked once: what is passed over leaves the level as it was.
+    // Events and an index: the caller's loop counts from the whole slice, in which AdvancesBy places the next.
     pub fn advance(&self, book: &[u64], events: &[u16], next: usize) -> Advance
         requires book_long { self.now.rule.rule.states < length book.now }
         requires event_left { next < length events.now }

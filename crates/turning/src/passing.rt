@@ -6,13 +6,16 @@ ghost use Rattle.turning.specs.Readings.{Counted};
 ghost use Rattle.turning.specs.PassingOver.{CountsOf, no_event, one_more, joined, Short, DepthsOf, AllPassed, PassedIn, PassesOver};
 
 use crate::PassedTo;
-use crate::turns::{CLOSE, MOST_EVENTS, OPEN};
+use crate::turns::{CLOSE, FIRST_LETTER, MOST_EVENTS, OPEN};
 use meaning::{Level, Reading};
 
 // How many events are looked at together, and how many are looked at one by one before that: a short part is over by then.
 const BLOCK: usize = 256;
 
 const FIRST: usize = 128;
+
+// A part of a block, of four.
+const QUARTER: usize = BLOCK / 4;
 
 // How many events of a run open a tree, how many close one, and the largest event.
 #[derive(Clone, Copy, Default)]
@@ -39,7 +42,7 @@ impl Counts {
 }
 
 // The skip depths of a run: the one at which it was begun, the lowest and the last.
-#[derive(Clone, Copy)]
+#[derive(Clone, Copy, Debug, PartialEq, Eq)]
 struct Depths {
     pub begun: u16,
     pub lowest: u16,
@@ -95,22 +98,22 @@ impl Depths {
         ensures depths { DepthsOf block.now result }
         ensures begun { result.begun ≡ 256 }
     {
-        let mut a = Depths::begun_at(64);
+        let mut a = Depths::begun_at(QUARTER as u16);
         let mut b = a;
         let mut c = a;
         let mut d = a;
-        for i in 0..64 {
+        for i in 0..QUARTER {
             a = a.with(block[i]);
-            b = b.with(block[64 + i]);
-            c = c.with(block[128 + i]);
-            d = d.with(block[192 + i]);
+            b = b.with(block[QUARTER + i]);
+            c = c.with(block[2 * QUARTER + i]);
+            d = d.with(block[3 * QUARTER + i]);
         }
         a.then(b).then(c.then(d))
     }
 }
 
 // How many events were passed over, and the skip depth after them.
-#[derive(Clone, Copy)]
+#[derive(Clone, Copy, Debug, PartialEq, Eq)]
 struct Passed {
     pub count: usize,
     pub skip: u32,
@@ -223,32 +226,9 @@ impl Run<'_> {
     }
 }
 
-// On a settled level events are taken by counting alone, up to the close that ends the level or an event that is refused.
-fn pass_over(letters: u16, reading: Reading, events: &[u16], from: usize) -> PassedTo
-    requires counted { Counted reading }
-    requires few_letters { letters ≤ 256 }
-    requires not_past { from ≤ length events.now }
-    ensures { (book : List ℕ) (top : Level) → skipping.settled book reading top ≡ true → PassesOver letters book reading top events.now from result }
-{
-    let left = &events[from..];
-    let room = (MOST_EVENTS - reading.taken) as usize;
-    let run = Run {
-        known: letters + 2,
-        skip: reading.skip,
-        events: &left[..room.min(left.len())],
-    };
-    let passed = run.pass();
-    PassedTo {
-        reading: Reading {
-            skip: passed.skip,
-            taken: reading.taken + passed.count as u32,
-            ..reading
-        },
-        next: from + passed.count,
-    }
-}
-
-// What can be passed over from here: nothing, unless the level is settled.
+// What can be passed over from here: on a settled level the events up to the close that ends it or an event that is refused, and on
+// any other nothing.
+// A flag and no Settled: still or held, what is passed over is the same.
 pub fn pass_settled(
     letters: u16,
     settled: bool,
@@ -261,11 +241,26 @@ pub fn pass_settled(
     requires not_past { from ≤ length events.now }
     ensures { (book : List ℕ) (top : Level) → settled ≡ skipping.settled book reading top → PassesOver letters book reading top events.now from result }
 {
-    if settled {
-        return pass_over(letters, reading, events, from);
+    if !settled {
+        return PassedTo {
+            reading,
+            next: from,
+        };
     }
+    let left = &events[from..];
+    let room = (MOST_EVENTS - reading.taken) as usize;
+    let run = Run {
+        known: letters + FIRST_LETTER,
+        skip: reading.skip,
+        events: &left[..room.min(left.len())],
+    };
+    let passed = run.pass();
     PassedTo {
-        reading,
-        next: from,
+        reading: Reading {
+            skip: passed.skip,
+            taken: reading.taken + passed.count as u32,
+            ..reading
+        },
+        next: from + passed.count,
     }
 }

@@ -72,6 +72,6 @@ pub fn in_hold(book: &[u64], reading: Reading, top: Level) -> bool
     if reading.depth == 0 {
         return false;
     }
-    let hold = 1 + top.above as usize;
+    let hold = 1 + usize::from(top.above);
     in_set(book[hold], reading.state)
 }

@@ -15,19 +15,22 @@ use rule::tables;
 use rule::tables::Table;
 
 // The most events that a reading takes.
-pub const MOST_EVENTS: u32 = 4294967295;
+pub const MOST_EVENTS: u32 = u32::MAX;
 
-// The events that open and close a tree; those above are letters.
+// The events that open and close a tree; from the first letter on, all are letters.
+// Numbers and no enum: events are a lent slice of u16.
 pub(crate) const OPEN: u16 = 0;
 
 pub(crate) const CLOSE: u16 = 1;
+
+pub(crate) const FIRST_LETTER: u16 = 2;
 
 impl<'a> Standing<'a> {
     // An event: the event limit and the known letters, and then what the settled level or full reading makes of it.
     pub fn skip_event(&self, settled: Settled, event: u16) -> Result<Turn, Reason>
         ensures { (book : List ℕ) → Stands book self.now.reading self.now.top settled → turn_says self.now.reading result ≡ skip_event (rule_of self.now.rule.file.now) book self.now.room self.now.ceiling self.now.reading self.now.top event }
     {
-        let known = self.rule.rule.letters + 2;
+        let known = self.rule.rule.letters + FIRST_LETTER;
         if MOST_EVENTS <= self.reading.taken {
             return Err(Reason::EventLimit);
         }
@@ -139,7 +142,7 @@ impl<'a> Taking<'a> {
         match event {
             OPEN => self.full_open(),
             CLOSE => self.full_close(),
-            _ => self.full_letter(event - 2),
+            _ => self.full_letter(event - FIRST_LETTER),
         }
     }
 

@@ -11,14 +11,14 @@ use Rattle.book.proofs.Walked.{states-are}
 use Rattle.book.proofs.Makes.{book-short, rounds-used-up, book-made}
 use Rattle.book.proofs.make_book.Goals as goal
 
-pub returns-then-book-rule-clause-answer : goal.returns-then-book-rule-clause-answer
+pub returns-then-book-from-clause-answer : goal.returns-then-book-from-clause-answer
 unfolding number_of
-returns-then-book-rule-clause-answer c =
+returns-then-book-from-clause-answer c =
     refusal-at c.at.ensures
     ∙ sym (book-short (rule_of c.args.rule.file.now) c.args.book.now (omega (arith, states-are c.args.rule.accepted)))
 
-pub returns-then-book-rule-clause-book_after : goal.returns-then-book-rule-clause-book_after
-returns-then-book-rule-clause-book_after c =
+pub returns-then-book-from-clause-book_after : goal.returns-then-book-from-clause-book_after
+returns-then-book-from-clause-book_after c =
     sym (after-refused _ _ _ (book-short (rule_of c.args.rule.file.now) c.args.book.now (omega (arith, states-are c.args.rule.accepted))))
 
 pub returns-then-used_up-clause-answer : goal.returns-then-used_up-clause-answer

@@ -11,12 +11,13 @@ use native.Mathlib.Omega.{arith}
 use native.Mathlib.Nat.{add-zero, add_assoc, le-max_left, le-max_right}
 use lib.ListN.{length, length-append}
 use borrow.Author.Tests.{ltb-true, lt-ltb, lt-leb, ne_eqb}
+use Rattle.std.proofs.lemmas.Bool.{and_from, and_parts}
 use Rattle.meaning.specs.Answers.{Answer, given, refused, ◌giving◌}
 use Rattle.meaning.specs.RuleFile.{Rule, Move, no_move, to, letter_move, tree_move, tree_start_move}
 use Rattle.meaning.specs.FullReading.{event_of, most_events, looked, Table, letter_table, start_table, tree_table, no_move_number, Turn, stays, stores, ends, look, new_level, full_turn, known_event, full_event, Run, innermost, outer, run_after, full_step, Went, feed_by}
 use Rattle.meaning.specs.Hedges.{Hedge, ε, ◌·◌, ⟨◌⟩·◌, events_of, known, Goes, by_nothing, by_letter, by_tree, Led, to_state, missing_at, later, by_move, from_there, evaluate, height, deepest_on, deepest}
 use Rattle.meaning.specs.StreamingMachine.{Suffices, Comes}
-use Rattle.meaning.proofs.laws.Answered.{refuse-passes, and-true, both_true}
+use Rattle.meaning.proofs.laws.Answered.{refuse-passes}
 use Rattle.meaning.proofs.laws.Tables.{number-tells}
 use Rattle.meaning.proofs.laws.FeedLaws.{feed-none, feed-taken, feed-refused}
 
@@ -44,11 +45,11 @@ pub evaluates-goes : (R : Rule) (q : ℕ) (h : Hedge) {q' : ℕ} → known R.let
 unfolding evaluate known
 evaluates-goes R q ε {q'} letters e = let same : q' ≡ q = cc in rw same by_nothing
 evaluates-goes R q (a · h) letters e =
-    let each = and-true _ _ letters in
+    let each = and_parts _ _ letters in
     let m = by_move-to letter_table _ 0 _ e in
     by_letter (ltb-true _ _ each.0) m.1 (evaluates-goes R m.0 h each.1 (later-to 1 _ m.2))
 evaluates-goes R q (⟨ h ⟩· g) letters e =
-    let each = and-true _ _ letters in
+    let each = and_parts _ _ letters in
     let start = by_move-to start_table _ 0 _ e in
     let inner = from_there-to _ _ start.2 in
     let close = by_move-to tree_table _ _ _ inner.2 in
@@ -68,8 +69,8 @@ goes-evaluates (by_tree s g m k) = rw (s, by_move, goes-evaluates g, later, from
 pub goes-known : {R : Rule} {q q' : ℕ} {h : Hedge} → Goes R q h q' → known R.letters h ≡ true
 unfolding known
 goes-known by_nothing = refl
-goes-known {R} (by_letter {a} letter m g) = both_true (lt-ltb a R.letters letter) (goes-known g)
-goes-known (by_tree s g m k) = both_true (goes-known g) (goes-known k)
+goes-known {R} (by_letter {a} letter m g) = and_from _ _ (lt-ltb a R.letters letter) (goes-known g)
+goes-known (by_tree s g m k) = and_from _ _ (goes-known g) (goes-known k)
 
 -- a hedge over the rule's letters leads to a state exactly if the automaton goes there
 pub evaluate-goes : (R : Rule) (q : ℕ) (h : Hedge) (q' : ℕ) → known R.letters h ≡ true
@@ -219,12 +220,12 @@ module _ (R : Rule) (room ceiling : ℕ) where
   unfolding events_of known height evaluate looked new_level run_after innermost outer
   follow ε m rest letters levels looks taken = arrives (ap (λ a. feed_by (full_step R room ceiling) a rest) (ahead_none m))
   follow (a · h) m rest letters levels looks taken =
-      let letter = and-true _ _ letters in
+      let letter = and_parts _ _ letters in
       by_move-follows (events_of h ++ rest) 0 (omega arith)
       (letter-look R room ceiling m (omega arith) (omega arith) a (ltb-true _ _ letter.0))
       (λ q. later-follows 1 (omega arith) (follow h (ahead m q 1) rest letter.1 levels (omega arith) (omega arith)))
   follow (⟨ h ⟩· g) m rest letters levels looks taken =
-      let both = and-true _ _ letters in
+      let both = and_parts _ _ letters in
       let tall = height-of-tree h g in
       let n : ℕ = length (events_of h) in
       let long : length (events_of h ++ (1 ∷ events_of g)) ≡ n + suc (length (events_of g)) = length-append (events_of h) (1 ∷ events_of g) in

@@ -8,10 +8,10 @@ use Prim.Native.Nat.{ℕ, zero, suc, ◌+◌, ◌<◌, ◌≤◌}
 use native.Mathlib.Omega.{arith}
 use lib.ListN.{length}
 use borrow.Author.Tests.{ltb-true, ltb-false, lt-ltb, le-ltb, eqb-true}
+use Rattle.std.proofs.lemmas.Bool.{and_from, and_parts}
 use Rattle.meaning.specs.Answers.{◌<?◌}
 use Rattle.meaning.specs.FullReading.{Event, opens, closes, letter, event_of}
 use Rattle.meaning.specs.Hedges.{Hedge, ε, ◌·◌, ⟨◌⟩·◌, events_of, known, nested_on, nested_from, known_events, well_nested}
-use Rattle.meaning.proofs.laws.Answered.{and-true, both_true}
 
 -- ---- nesting of events in two parts
 
@@ -53,9 +53,9 @@ pub well-nested-append : (k : ℕ) (es fs : List ℕ) → well_nested k es ≡ t
     → well_nested k (es ++ fs) ≡ true
 unfolding well_nested
 well-nested-append k es fs p q =
-    let a = and-true _ _ p in
-    let b = and-true _ _ q in
-    both_true (nested-append 0 es fs a.0 ∙ b.0) (known-append k es fs ∙ both_true a.1 b.1)
+    let a = and_parts _ _ p in
+    let b = and_parts _ _ q in
+    and_from _ _ (nested-append 0 es fs a.0 ∙ b.0) (known-append k es fs ∙ and_from _ _ a.1 b.1)
 
 -- ---- the events of a hedge are well nested, and known just if the hedge is
 
@@ -93,7 +93,7 @@ nested-whole h = rw append-nil at (hedge-nested-on h 0 [])
 
 pub hedge-nested : (k : ℕ) (h : Hedge) → known k h ≡ true → well_nested k (events_of h) ≡ true
 unfolding well_nested
-hedge-nested k h e = both_true (nested-whole h) (known-hedge k h ∙ e)
+hedge-nested k h e = and_from _ _ (nested-whole h) (known-hedge k h ∙ e)
 
 -- ---- events read back as hedges
 
@@ -182,7 +182,7 @@ joined-alone h (g ∷ gs) e = absurd (omega arith)
 pub nested-hedge : (k : ℕ) (es : List ℕ) → well_nested k es ≡ true → (h : Hedge) × (events_of h ≡ es) × (known k h ≡ true)
 unfolding well_nested
 nested-hedge k es e =
-    let well = and-true _ _ e in
+    let well = and_parts _ _ e in
     let h : Hedge = (read_back es).first in
     let back = nested-joined 0 es well.0 in
     let same : events_of h ≡ es = sym (joined-alone h (read_back es).others back.1) ∙ back.0 in

@@ -4,11 +4,13 @@
 use Rattle.std.proofs.Common.{if◌then◌else◌}
 use mathlib.Core.Path.{◌≡◌, refl, ◌∙◌}
 use mathlib.Core.Bool.{Bool, true, false, not, ◌&&◌, ◌||◌}
+use mathlib.Core.Logic.{⊎_elim}
 use mathlib.Core.List.{List, [], ◌∷◌, ◌++◌}
 use Prim.Native.Nat.{ℕ, ◌+◌, ◌-◌, ◌<◌, ◌≤◌}
 use native.Mathlib.Omega.{arith}
 use lib.ListN.{length}
 use borrow.Author.Tests.{lt-ltb, le-ltb, ltb-true, ltb-false, leb-false, lt-leb}
+use Rattle.std.proofs.lemmas.Bool.{and_from, and_right, cases_Bool, or_left, or_right}
 use Rattle.meaning.specs.declared.Reading.{Reading}
 use Rattle.meaning.specs.declared.Level.{Level}
 use Rattle.meaning.specs.Answers.{Answer, given, refused, ◌≤?◌, ◌<?◌}
@@ -21,9 +23,8 @@ use Rattle.meaning.specs.Skipping.{held, settled, passed, ends_level, settled_tu
 use Rattle.meaning.specs.PassedOver.{level_held, level_settled, outside_settled, closes_still, passed_over}
 use Rattle.meaning.specs.PassedOver.{then_count, not_passed_over}
 use Rattle.meaning.specs.Calls.{Judged, end_of, end_of_run}
-use Rattle.meaning.proofs.laws.Answered.{if-true, if-false, both_true, refuse-given, refuse-passes}
-use Rattle.meaning.proofs.laws.Truths.{true-is-not-false, by_cases, or-true-first, or-true, or-true-left, or_true_right}
-use Rattle.meaning.proofs.laws.Truths.{and-false-right}
+use Rattle.meaning.proofs.laws.Answered.{if-true, if-false, refuse-given, refuse-passes}
+use Rattle.meaning.proofs.laws.Truths.{true-is-not-false, or-true-first, or-true}
 use Rattle.meaning.proofs.laws.Events.{known-letter}
 use Rattle.meaning.proofs.skipbook.Reaching.{letter-below, tree-below, start-below, initial-below}
 use Rattle.meaning.proofs.skipbook.Reaching.{letter-ends-tree, tree-ends-tree, start-ends-tree}
@@ -130,17 +131,17 @@ module _ {R : Rule} {book : List ℕ} (rule : IsRule R) (own : IsBook R book) {q
     settled-stays : {x : ℕ} → Reach R q x → level_settled book x σ ≡ true
     unfolding level_settled
     settled-stays {x} reach =
-        by_cases (in_still book q)
-        (λ still. or-true-left {a = in_still book x} _ (rw (still-stays rule own low still reach) still))
-        (λ moves. or_true_right (in_still book x)
-        (held_stays outside (or-true (in_still book q) _ settles moves) reach))
+        ⊎_elim
+        (λ still. or_left (in_still book x) _ (rw (still-stays rule own low still reach) still))
+        (λ moves. or_right (in_still book x) _
+        (held_stays outside (or-true (in_still book q) _ settles moves) reach)) (cases_Bool (in_still book q))
 
     -- ahead of a settled level, full reading stands on a settled level or inside of one
     ahead-settled : {x : ℕ} {τ : List Level} → Ahead R q x τ
         → (level_settled book x (τ ++ σ) || outside_settled book (τ ++ σ)) ≡ true
     unfolding outside_settled
-    ahead-settled (here reach) = or-true-left _ (settled-stays reach)
-    ahead-settled (inside {x} {l} {τ} can rest) = or_true_right (level_settled book x (l ∷ τ ++ σ)) (ahead-settled rest)
+    ahead-settled (here reach) = or_left _ _ (settled-stays reach)
+    ahead-settled (inside {x} {l} {τ} can rest) = or_right (level_settled book x (l ∷ τ ++ σ)) _ (ahead-settled rest)
 
     inside-settled : {x : ℕ} {l : Level} {τ : List Level} → Ahead R q x (l ∷ τ) → outside_settled book (l ∷ τ ++ σ) ≡ true
     unfolding outside_settled
@@ -265,7 +266,7 @@ passes : {R : Rule} {book : List ℕ} {r r' : Reading} {τ σ : List Level} (v :
     → Alongside R book r τ r' σ → level_settled book r'.state σ ≡ true → closes_still book r.state (τ ++ σ) v ≡ false
     → over book r.state (τ ++ σ) v ≡ true
 passes v rule own along settles exempt =
-    both_true (ahead-settled rule own along.state along.outside settles along.ahead) (rw exempt)
+    and_from _ _ (ahead-settled rule own along.state along.outside settles along.ahead) (rw exempt)
 
 module _ {R : Rule} {book : List ℕ} (rule : IsRule R) (own : IsBook R book) (room ceiling : ℕ) {r r' : Reading} where
   -- A close that ends a held level: full reading's tree move leads back to the state above.
@@ -318,7 +319,7 @@ module _ {R : Rule} {book : List ℕ} (rule : IsRule R) (own : IsBook R book) (r
       let exempt = inside-settled rule own along.state along.outside settles along.ahead in
       if-second _
       (λ more. refuse-first 7 _ _ λ deep. refuse-first 9 _ _ λ free. look-first tree_table _ _ λ q leads. both_give
-      (goes_on closes along settles (and-false-right (not (level_held book r.state (l ∷ τ ++ σ))) (rw exempt))
+      (goes_on closes along settles (and_right (not (level_held book r.state (l ∷ τ ++ σ))) _ (rw exempt))
       (looked r q (r.depth - 1)) τ (r'.skip - 1) (omega arith) (ahead-close rule along.ahead leads)))
       (λ last. absurd (omega (arith, ltb-false 0 r'.skip last)))
 
@@ -408,10 +409,10 @@ same-state : {R : Rule} {book : List ℕ} {r r' : Reading} (τ σ : List Level) 
     → Alongside R book r τ r' σ → length τ + length σ ≡ 0 → r.state ≡ r'.state
 unfolding level_settled level_held
 same-state {book} {r'} [] [] rule own along none =
-    by_cases (level_settled book r'.state [])
+    ⊎_elim
     (λ settles. still-stays rule own along.state (or-true-first (in_still book r'.state) false settles refl)
     (here-reach along.ahead))
-    (λ unsettled. (along.together unsettled).1)
+    (λ unsettled. (along.together unsettled).1) (cases_Bool (level_settled book r'.state []))
 same-state [] (l ∷ σ) rule own along none = absurd (omega arith)
 same-state (l ∷ τ) σ rule own along none = absurd (omega arith)
 

@@ -8,6 +8,7 @@ use Prim.Native.Nat.{ℕ, zero, suc, ◌+◌, ◌-◌, ◌<◌, ◌≤◌}
 use native.Mathlib.Omega.{arith}
 use lib.ListN.{length, length-append}
 use borrow.Author.Tests.{lt-ltb, ltb-true, leb-false, lt-leb, eqb-true}
+use Rattle.std.proofs.lemmas.Bool.{and_parts}
 use Rattle.meaning.specs.declared.Reading.{Reading}
 use Rattle.meaning.specs.declared.Level.{Level}
 use Rattle.meaning.specs.Answers.{given, ◌≤?◌, ◌<?◌}
@@ -19,7 +20,7 @@ use Rattle.meaning.specs.Hedges.{nested_on, nested_from, known_events, well_nest
 use Rattle.meaning.specs.Skipping.{held, settled, passed, ends_level, settled_turn, skip_turn, skip_event, skip_step, skip_from, skip_run}
 use Rattle.meaning.specs.PassedOver.{PassedOverPart}
 use Rattle.meaning.specs.Calls.{Judged, end_of, end_of_run}
-use Rattle.meaning.proofs.laws.Answered.{if-true, refuse-passes, refuse-given, giving-passes, and-true}
+use Rattle.meaning.proofs.laws.Answered.{if-true, refuse-passes, refuse-given, giving-passes}
 use Rattle.meaning.proofs.laws.FeedLaws.{feed-none, feed-taken, feed-append, feed-split}
 use Rattle.meaning.proofs.laws.Truths.{true-is-not-false}
 use Rattle.meaning.proofs.laws.Following.{Follows, both_give, refuse-each, if-each, look-each, giving-each, follows_so, feed-each}
@@ -235,7 +236,7 @@ module _ (R : Rule) (book : List ℕ) (room ceiling : ℕ) (r : Reading) (ls : L
       let same : t + 0 ≡ t = omega arith in
       rw (none, same) (feed-none (skip_step R book room ceiling) _)
   nested-run t d (e ∷ es) nested known limit =
-      let each = and-true (e <? R.letters + 2) (known_events R.letters es) known in
+      let each = and_parts (e <? R.letters + 2) (known_events R.letters es) known in
       let fits : t + suc (length es) ≤ most_events = limit (omega arith) in
       let next = nested-step t d e (λ d. nested_from d es) (omega arith) (ltb-true e (R.letters + 2) each.0) nested in
       let sum : t + suc (length es) ≡ t + 1 + length es = omega arith in
@@ -253,7 +254,7 @@ pub nested-changes-nothing : (R : Rule) (book : List ℕ) (room ceiling : ℕ) (
     → skip_from R book room ceiling m es ≡ record { last = later (length es) m; ended = given tt }
 unfolding well_nested
 nested-changes-nothing R book room ceiling m es settles nested limit =
-    let each = and-true (nested_from 0 es) (known_events R.letters es) nested in
+    let each = and_parts (nested_from 0 es) (known_events R.letters es) nested in
     let flat : m.reading.skip + 0 ≡ m.reading.skip = omega arith in
     rw flat at
     (nested-run R book room ceiling m.reading m.levels settles m.reading.taken 0 es each.0 each.1 limit)

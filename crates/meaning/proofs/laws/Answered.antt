@@ -2,7 +2,7 @@
 -- given says of the checks before it. Whoever uses a definition goes by these and does not open the words.
 use Rattle.std.proofs.Common.{if◌then◌else◌}
 use mathlib.Core.Path.{◌≡◌, refl}
-use mathlib.Core.Bool.{Bool, true, false, not, ◌&&◌, ◌||◌}
+use mathlib.Core.Bool.{Bool, true, false}
 use Prim.Native.Nat.{ℕ}
 use native.Mathlib.Omega.{arith}
 use Rattle.meaning.specs.Answers.{Answer, given, refused, refuse◌at◌when◌otherwise◌, ◌and_then◌, ◌giving◌}
@@ -67,23 +67,3 @@ pub giving-given : {A B : Type 0} (x : Answer A) (f : A → Answer B) {b : B} �
 unfolding ◌giving◌
 giving-given (given a) f e = (a, refl, e)
 giving-given (refused number place) f e = let z : ◌≡◌ {A = ℕ} 0 1 = cc in absurd (omega arith)
-
--- ---- truth values
-
-pub not-false-true : {b : Bool} → not b ≡ false → b ≡ true
-not-false-true {b = true} e = refl
-not-false-true {b = false} e = let z : ◌≡◌ {A = ℕ} 0 1 = cc in absurd (omega arith)
-
-pub true-not-false : {b : Bool} → b ≡ true → not b ≡ false
-true-not-false e = rw e
-
-pub and-true : (a b : Bool) → (a && b) ≡ true → (a ≡ true) × (b ≡ true)
-and-true true b e = (refl, e)
-and-true false b e = let z : ◌≡◌ {A = ℕ} 0 1 = cc in absurd (omega arith)
-
-pub both_true : {a b : Bool} → a ≡ true → b ≡ true → (a && b) ≡ true
-both_true p q = rw p q
-
-pub or-false : (a b : Bool) → (a || b) ≡ false → (a ≡ false) × (b ≡ false)
-or-false true b e = let z : ◌≡◌ {A = ℕ} 0 1 = cc in absurd (omega arith)
-or-false false b e = (refl, e)

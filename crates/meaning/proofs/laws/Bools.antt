@@ -7,9 +7,9 @@ use native.Mathlib.Nat.{not-suc-le-zero, le_of_suc-le-suc, eq-or-lt_of_le}
 use mathlib.Core.Logic.{◌⊎◌, inl, inr}
 use native.Mathlib.Omega.{arith}
 use lib.ListN.{length, get_or}
+use Rattle.std.proofs.lemmas.Bool.{and_from, and_parts, false_from_ne_true, or_left, or_right}
 use Rattle.meaning.specs.SkipBook.{all_below, any_below, listed}
-use Rattle.meaning.proofs.laws.Answered.{and-true, both_true}
-pub use Rattle.meaning.proofs.laws.Truths.{true-is-not-false, not-true-false, and-false-right, or-true, or-true-first, or-true-left, or_true_right, both_false}
+pub use Rattle.meaning.proofs.laws.Truths.{true-is-not-false, or-true, or-true-first}
 
 -- ---- the numbers below n
 
@@ -30,16 +30,16 @@ pub all-below : (n : ℕ) (f : ℕ → Bool) → all_below n f ≡ true → (i :
 unfolding all_below
 all-below zero f e i h = absurd (not-suc-le-zero h)
 all-below (suc n) f e i h =
-    let both = and-true (all_below n f) (f n) e in
+    let both = and_parts (all_below n f) (f n) e in
     below n i h (all-below n f both.0) both.1
 
 pub below_all : (n : ℕ) (f : ℕ → Bool) → ((i : ℕ) → i < n → f i ≡ true) → all_below n f ≡ true
 unfolding all_below
 below_all zero f h = refl
-below_all (suc n) f h = both_true (below_all n f (λ i l. h i (omega arith))) (h n (omega arith))
+below_all (suc n) f h = and_from _ _ (below_all n f (λ i l. h i (omega arith))) (h n (omega arith))
 
 pub all-below-fails : (n : ℕ) (f : ℕ → Bool) (i : ℕ) → i < n → f i ≡ false → all_below n f ≡ false
-all-below-fails n f i h e = not-true-false _ (λ t. true-is-not-false (all-below n f t i h) e)
+all-below-fails n f i h e = false_from_ne_true _ (λ t. true-is-not-false (all-below n f t i h) e)
 
 pub all-below-same : (n : ℕ) (f g : ℕ → Bool) → ((i : ℕ) → i < n → f i ≡ g i) → all_below n f ≡ all_below n g
 unfolding all_below
@@ -62,14 +62,14 @@ pub below-any : (n : ℕ) (f : ℕ → Bool) (i : ℕ) → i < n → f i ≡ tru
 unfolding any_below
 below-any zero f i h e = absurd (not-suc-le-zero h)
 below-any (suc n) f i h e = below {P = λ j. f j ≡ true → (any_below n f || f n) ≡ true} n i h
-    (λ j l t. or-true-left (f n) (below-any n f j l t))
-    (λ t. or_true_right (any_below n f) t) e
+    (λ j l t. or_left _ (f n) (below-any n f j l t))
+    (λ t. or_right (any_below n f) _ t) e
 
 pub any-below-fails : (n : ℕ) (f : ℕ → Bool) → ((i : ℕ) → i < n → f i ≡ false) → any_below n f ≡ false
-any-below-fails n f h = not-true-false _ (λ t. let w = any_below_lem n f t in true-is-not-false w.2 (h w.0 w.1))
+any-below-fails n f h = false_from_ne_true _ (λ t. let w = any_below_lem n f t in true-is-not-false w.2 (h w.0 w.1))
 
 pub no-below-any : (n : ℕ) (f : ℕ → Bool) → any_below n f ≡ false → (i : ℕ) → i < n → f i ≡ false
-no-below-any n f e i h = not-true-false _ (λ t. true-is-not-false (below-any n f i h t) e)
+no-below-any n f e i h = false_from_ne_true _ (λ t. true-is-not-false (below-any n f i h t) e)
 
 pub any-below-same : (n : ℕ) (f g : ℕ → Bool) → ((i : ℕ) → i < n → f i ≡ g i) → any_below n f ≡ any_below n g
 unfolding any_below

@@ -9,16 +9,17 @@ use native.Mathlib.Omega.{arith}
 use lib.ListN.{length, get_or, drop, length-drop}
 use lib.Seq.{length-take-le}
 use borrow.Author.Tests.{ltb-false, leb-true}
+use Rattle.std.proofs.lemmas.Bool.{and_parts, not-false}
 use Rattle.meaning.specs.Answers.{given, ◌≤?◌}
 use Rattle.meaning.specs.RuleFile.{Rule, IsRule, is_states, is_state, is_move, is_class, is_letters, part, rule_of, check_rule, record_check, numbers_check, table_check, letter_record, tree_record, class_record, file_length, header_length, numbers_length, most_states, most_letters}
-use Rattle.meaning.proofs.laws.Answered.{refuse-given, and_then-given, not-false-true, and-true}
+use Rattle.meaning.proofs.laws.Answered.{refuse-given, and_then-given}
 
 -- a table that passes has every entry in range
 pub table-in : (good : ℕ → Bool) (place : ℕ) (xs : List ℕ) → table_check good place xs ≡ given tt
     → (i : ℕ) → i < length xs → good (get_or xs i 0) ≡ true
 unfolding table_check
 table-in good place [] e i h = absurd (not-suc-le-zero h)
-table-in good place (x ∷ xs) e zero h = not-false-true (refuse-given 4 place (not (good x)) _ e).0
+table-in good place (x ∷ xs) e zero h = not-false _ (refuse-given 4 place (not (good x)) _ e).0
 table-in good place (x ∷ xs) e (suc i) h =
     table-in good (suc place) xs (refuse-given 4 place (not (good x)) _ e).1 i (le_of_suc-le-suc h)
 
@@ -105,10 +106,10 @@ numbers-in R e =
     let a3 = refuse-given 4 (header_length + 2) _ _ a2.1 in
     let a4 = refuse-given 4 (header_length + 3) _ _ a3.1 in
     record {
-      states_in = not-false-true a1.0;
-      initial_in = not-false-true a2.0;
-      tree_start_in = not-false-true a3.0;
-      letters_in = not-false-true a4.0;
+      states_in = not-false _ a1.0;
+      initial_in = not-false _ a2.0;
+      tree_start_in = not-false _ a3.0;
+      letters_in = not-false _ a4.0;
     }
 
 is-rule : (file : List ℕ) → Passed file (rule_of file) → IsRule (rule_of file)
@@ -162,11 +163,11 @@ class-part file e =
 pub states-range : (n : ℕ) → is_states n ≡ true → (1 ≤ n) × (n ≤ most_states)
 unfolding is_states
 states-range n e =
-    let b = and-true (1 ≤? n) (n ≤? most_states) e in
+    let b = and_parts (1 ≤? n) (n ≤? most_states) e in
     (leb-true 1 n b.0, leb-true n most_states b.1)
 
 pub letters-range : (k : ℕ) → is_letters k ≡ true → (1 ≤ k) × (k ≤ most_letters)
 unfolding is_letters
 letters-range k e =
-    let b = and-true (1 ≤? k) (k ≤? most_letters) e in
+    let b = and_parts (1 ≤? k) (k ≤? most_letters) e in
     (leb-true 1 k b.0, leb-true k most_letters b.1)

@@ -11,9 +11,10 @@ use lib.ListN.{length, get_or, take, drop, length-append, length-take, length-dr
 use lib.Arith.{digits_div, digits_mod}
 use lib.Seq.{get_or-append-add, take_at, drop_at, drop-cons, take-add, drop-drop, take_all}
 use borrow.Author.Tests.{ltb-false, leb-true, eqb-true, le-ltb, eq-eqb}
+use Rattle.std.proofs.lemmas.Bool.{and_parts, not-false, not_from_true}
 use Rattle.meaning.specs.Answers.{Answer, given, ◌≤?◌}
 use Rattle.meaning.specs.RuleFile.{Rule, IsRule, is_states, is_move, is_class, is_letters, byte_at, number2, number4, bytes2, bytes4, part, record_bytes, numbers_body, rule_bytes, rule_of, check_rule, record_check, numbers_check, table_check, write_check, output_after, letter_record, tree_record, class_record, file_length, header_length, numbers_length, most_states, most_letters}
-use Rattle.meaning.proofs.laws.Answered.{refuse-passes, refuse-given, and_then-passes, and_then-given, not-false-true, true-not-false, and-true}
+use Rattle.meaning.proofs.laws.Answered.{refuse-passes, refuse-given, and_then-passes, and_then-given}
 use Rattle.meaning.proofs.rulefile.Accepted.{Passed, passed, accepted-rule, accepted-length, accepted-is-rule, letter-part, tree-part, class-part, table-in, numbers-in, record-whole}
 
 -- the longest file
@@ -41,9 +42,9 @@ writes R room e =
     let a7 = and_then-given _ _ a6.1 in
     let a8 = refuse-given 14 _ _ _ a7.1 in
     let h = numbers-in R a1.0 in
-    let l2 = eqb-true _ _ (not-false-true a2.0) in
-    let l3 = eqb-true _ _ (not-false-true a3.0) in
-    let l4 = eqb-true _ _ (not-false-true a4.0) in
+    let l2 = eqb-true _ _ (not-false _ a2.0) in
+    let l3 = eqb-true _ _ (not-false _ a3.0) in
+    let l4 = eqb-true _ _ (not-false _ a4.0) in
     record {
       rule = record {
         states_in = h.states_in;
@@ -79,16 +80,16 @@ pub table-passes : (good : ℕ → Bool) (place : ℕ) (xs : List ℕ) → ((i :
 unfolding table_check
 table-passes good place [] all = refl
 table-passes good place (x ∷ xs) all =
-    refuse-passes 4 place _ (true-not-false (all zero (suc-le-suc zero-le)))
+    refuse-passes 4 place _ (not_from_true _ (all zero (suc-le-suc zero-le)))
     ∙ table-passes good (suc place) xs (λ i h. all (suc i) (suc-le-suc h))
 
 numbers-pass : (R : Rule) → IsRule R → numbers_check R ≡ given tt
 unfolding numbers_check
 numbers-pass R p =
-    refuse-passes 4 _ _ (true-not-false p.states_in)
-    ∙ refuse-passes 4 _ _ (true-not-false p.initial_in)
-    ∙ refuse-passes 4 _ _ (true-not-false p.tree_start_in)
-    ∙ refuse-passes 4 _ _ (true-not-false p.letters_in)
+    refuse-passes 4 _ _ (not_from_true _ p.states_in)
+    ∙ refuse-passes 4 _ _ (not_from_true _ p.initial_in)
+    ∙ refuse-passes 4 _ _ (not_from_true _ p.tree_start_in)
+    ∙ refuse-passes 4 _ _ (not_from_true _ p.letters_in)
 
 letters-pass : (R : Rule) → IsRule R → (place : ℕ) → table_check (is_move R.states) place R.letter_moves ≡ given tt
 letters-pass R p place = table-passes _ place _ (λ i h. p.letter_in i (omega (arith, p.letter_length)))
@@ -123,8 +124,8 @@ pub record-passes : (file : List ℕ) (place kind size : ℕ) → number2 file (
 unfolding record_check
 record-passes file place kind size right long whole =
     refuse-passes 1 (length file) _ (le-ltb (length file) (place + header_length) (omega arith))
-    ∙ refuse-passes 2 (place + 4) _ (true-not-false (eq-eqb _ _ right))
-    ∙ refuse-passes 3 place _ (true-not-false (eq-eqb _ _ long))
+    ∙ refuse-passes 2 (place + 4) _ (not_from_true _ (eq-eqb _ _ right))
+    ∙ refuse-passes 3 place _ (not_from_true _ (eq-eqb _ _ long))
     ∙ refuse-passes 1 (length file) _ (le-ltb _ _ whole)
 
 -- what stands after some bytes is read at their length and on
@@ -189,11 +190,11 @@ stands file front place kind body size rest e here long small_kind small_body =
 -- n is at most 64, k at most 256, and a product of two such is small
 states-most : (R : Rule) → IsRule R → R.states ≤ 64
 unfolding is_states
-states-most R p = leb-true _ _ (and-true (1 ≤? R.states) (R.states ≤? most_states) p.states_in).1
+states-most R p = leb-true _ _ (and_parts (1 ≤? R.states) (R.states ≤? most_states) p.states_in).1
 
 letters-most : (R : Rule) → IsRule R → R.letters ≤ 256
 unfolding is_letters
-letters-most R p = leb-true _ _ (and-true (1 ≤? R.letters) (R.letters ≤? most_letters) p.letters_in).1
+letters-most R p = leb-true _ _ (and_parts (1 ≤? R.letters) (R.letters ≤? most_letters) p.letters_in).1
 
 -- the four records
 abbrev first : Rule → List ℕ
@@ -342,7 +343,7 @@ record-header file place kind size e =
     let a1 = refuse-given 1 (length file) _ _ e in
     let a2 = refuse-given 2 (place + 4) _ _ a1.1 in
     let a3 = refuse-given 3 place _ _ a2.1 in
-    (eqb-true _ _ (not-false-true a2.0), eqb-true _ _ (not-false-true a3.0))
+    (eqb-true _ _ (not-false _ a2.0), eqb-true _ _ (not-false _ a3.0))
 
 module _ (file : List ℕ) (bytes : (i : ℕ) → byte_at file i < 256) where
   -- a record that passes is the bytes of its kind and of its body
@@ -420,9 +421,9 @@ pub rule-writes : (R : Rule) (room : ℕ) → IsRule R → file_length R.states 
 unfolding write_check
 rule-writes R room p h =
     and_then-passes _ (numbers-pass R p)
-    ∙ refuse-passes 3 _ _ (true-not-false (eq-eqb _ _ p.letter_length))
-    ∙ refuse-passes 3 _ _ (true-not-false (eq-eqb _ _ p.tree_length))
-    ∙ refuse-passes 3 _ _ (true-not-false (eq-eqb _ _ p.class_length))
+    ∙ refuse-passes 3 _ _ (not_from_true _ (eq-eqb _ _ p.letter_length))
+    ∙ refuse-passes 3 _ _ (not_from_true _ (eq-eqb _ _ p.tree_length))
+    ∙ refuse-passes 3 _ _ (not_from_true _ (eq-eqb _ _ p.class_length))
     ∙ and_then-passes _ (letters-pass R p _)
     ∙ and_then-passes _ (trees-pass R p _)
     ∙ and_then-passes _ (classes-pass R p _)

@@ -14,9 +14,9 @@ use lib.Pow.{shr-shr, pow_mono}
 use lib.Bits.{bit_and, bit_or, bit_xor, differ, and_step, or_step, xor_step, and_le_r}
 use lib.Count.{count_trailing_zeros, under}
 use borrow.Author.Tests.{eqb-true, eqb-false}
+use Rattle.std.proofs.lemmas.Bool.{cases_Bool}
 use Rattle.meaning.specs.Answers.{◌=?◌}
 use Rattle.meaning.specs.SkipBook.{marked, word_of, bit}
-use Rattle.meaning.proofs.laws.Truths.{truth}
 
 -- ---- digit by digit
 
@@ -45,7 +45,7 @@ digit-same a b e =
     ⊎_elim
     (λ t. omega (arith, eqb-true (a % 2) 1 t, eqb-true (b % 2) 1 (sym e ∙ t)))
     (λ f. let na = eqb-false (a % 2) 1 f in let nb = eqb-false (b % 2) 1 (sym e ∙ f) in omega arith)
-    (truth (a % 2 =? 1))
+    (cases_Bool (a % 2 =? 1))
 
 same-bits-step : (a b : ℕ) → (a / 2 ≡ b / 2) → bit a zero ≡ bit b zero → a ≡ b
 same-bits-step a b half e = let low = digit-same a b (sym (bit-first a) ∙ e ∙ bit-first b) in omega arith

@@ -8,9 +8,10 @@ use native.Mathlib.Nat.{not-suc-le-zero, le_step, le_refl}
 use native.Mathlib.Omega.{arith}
 use lib.ListN.{get_or, get_or-eq_default}
 use borrow.Author.Tests.{ltb-true, ltb-false}
+use Rattle.std.proofs.lemmas.Bool.{cases_Bool}
 use Rattle.meaning.specs.Answers.{◌<?◌}
 use Rattle.meaning.specs.SkipBook.{listed, marked}
-use Rattle.meaning.proofs.laws.Truths.{truth, true-is-not-false}
+use Rattle.meaning.proofs.laws.Truths.{true-is-not-false}
 use Rattle.meaning.proofs.laws.Bools.{last-or-below, listed-length, listed_at}
 
 -- ---- lists of n
@@ -32,7 +33,7 @@ marked-past n f p h = get_or-eq_default (listed n f) false (rw listed-length h)
 
 -- what is marked is below n, and the test holds of it
 pub marked-true : (n : ℕ) (f : ℕ → Bool) (p : ℕ) → marked (listed n f) p ≡ true → (p < n) × (f p ≡ true)
-marked-true n f p e = ⊎_elim inside outside (truth (p <? n))
+marked-true n f p e = ⊎_elim inside outside (cases_Bool (p <? n))
   where
     inside : (p <? n) ≡ true → (p < n) × (f p ≡ true)
     inside t = let h : p < n = ltb-true p n t in (h, sym (marked-below n f p h) ∙ e)

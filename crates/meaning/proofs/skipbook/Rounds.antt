@@ -9,12 +9,14 @@ use Prim.Native.Nat.{ℕ, zero, suc, ◌≤◌, ◌<◌}
 use native.Mathlib.Omega.{arith}
 use lib.ListN.{length}
 use borrow.Author.Tests.{leb-true, eqb-true, eq-eqb, not-true}
+use Rattle.std.proofs.lemmas.Bool.{and_from, and_parts, cases_Bool, false_from_ne_true, or_cases, or_from, or_left, or_right}
+use Rattle.std.specs.Cmp.Derive.{one_truth}
 use Rattle.meaning.specs.Answers.{◌=?◌, ◌≤?◌}
 use Rattle.meaning.specs.RuleFile.{Rule, IsRule, Move, no_move, to, none, as_move, letter_move, tree_move, tree_start_move, is_states}
 use Rattle.meaning.specs.SkipBook.{CanEndTree, start_ends, letter_ends, tree_ends, Reach, itself, by_letter, by_tree, any_below, marked, goes_to, one_move, round, rounds, start_marks, end_round, ends_in, end_marks, only_state, reached_in, adds, reach_marks, rounds_used_up}
-use Rattle.meaning.proofs.laws.Answered.{if-true, if-false, and-true, both_true}
+use Rattle.meaning.proofs.laws.Answered.{if-true, if-false}
 use Rattle.meaning.proofs.skipbook.Reaching.{letter-below, tree-below, start-below, ends-below, no-start-no-ends, reach-below}
-use Rattle.meaning.proofs.laws.Truths.{truth, same_truth, or_cases, or-true-left, or_true_right, true-is-not-false, not-true-false, both_false, not-without, never_both}
+use Rattle.meaning.proofs.laws.Truths.{true-is-not-false, not-without, never_both}
 use Rattle.meaning.proofs.laws.Bools.{below-any, any_below_lem, no-below-any, any-below-fails, any-below-same, listed-length, listed_same}
 use Rattle.meaning.proofs.skipbook.Marks.{marked-below, marked-true, count_below, count_most, count_less, count-some}
 
@@ -27,7 +29,7 @@ none_is {x} e = if-true no_move (to x) (eq-eqb x none e)
 -- a move to a state is a byte that is not none, and that state
 pub move-to : (x : ℕ) {q : ℕ} → as_move x ≡ to q → ((x =? none) ≡ false) × (x ≡ q)
 unfolding as_move
-move-to x {q} e = ⊎_elim no_move_lem some (truth (x =? none))
+move-to x {q} e = ⊎_elim no_move_lem some (cases_Bool (x =? none))
   where
     no_move_lem : (x =? none) ≡ true → ((x =? none) ≡ false) × (x ≡ q)
     no_move_lem t = let z : ◌≡◌ {A = ℕ} 0 1 = cc (if-true no_move (to x) t) in absurd (omega arith)
@@ -50,15 +52,15 @@ module _ (R : Rule) (lowers : List Bool) where
   pub letter-one : (p a : ℕ) {p' : ℕ} → a < R.letters → letter_move R p a ≡ to p' → one_move R lowers p p' ≡ true
   unfolding one_move
   letter-one p a {p'} h e =
-      or-true-left (any_below R.states (λ lower. marked lowers lower && goes_to p' (tree_move R p lower)))
+      or_left _ (any_below R.states (λ lower. marked lowers lower && goes_to p' (tree_move R p lower)))
       (below-any R.letters (λ b. goes_to p' (letter_move R p b)) a h (goes_to_lem p' e))
 
   pub tree-one : (p lower : ℕ) {p' : ℕ} → lower < R.states → marked lowers lower ≡ true → tree_move R p lower ≡ to p'
       → one_move R lowers p p' ≡ true
   unfolding one_move
   tree-one p lower {p'} h c e =
-      or_true_right (any_below R.letters (λ a. goes_to p' (letter_move R p a)))
-      (below-any R.states (λ l. marked lowers l && goes_to p' (tree_move R p l)) lower h (both_true c (goes_to_lem p' e)))
+      or_right (any_below R.letters (λ a. goes_to p' (letter_move R p a))) _
+      (below-any R.states (λ l. marked lowers l && goes_to p' (tree_move R p l)) lower h (and_from _ _ c (goes_to_lem p' e)))
 
   -- one move is by a letter or by a tree
   pub one-by : {A : Type 0} (p p' : ℕ) → one_move R lowers p p' ≡ true
@@ -76,7 +78,7 @@ module _ (R : Rule) (lowers : List Bool) where
       by_trees : any_below R.states (λ lower. marked lowers lower && goes_to p' (tree_move R p lower)) ≡ true → A
       by_trees t =
           let s = any_below_lem R.states _ t in
-          let b = and-true (marked lowers s.0) _ s.2 in
+          let b = and_parts (marked lowers s.0) _ s.2 in
           trees s.0 s.1 b.0 (goes-true p' _ b.1)
 
   -- it leads to a state
@@ -102,7 +104,7 @@ module _ (R : Rule) (lowers : List Bool) where
   round_by marks p' e was moved =
       ⊎_elim was
       (λ t. let s = any_below_lem R.states _ t in
-      let b = and-true (marked marks s.0) _ s.2 in
+      let b = and_parts (marked marks s.0) _ s.2 in
       moved s.0 b.0 b.1)
       (or_cases (marked marks p') _ (round-true marks p' e).1)
 
@@ -112,15 +114,15 @@ module _ (R : Rule) (lowers : List Bool) where
 
   -- a round keeps the marks
   pub round_keeps : (marks : List Bool) (p : ℕ) → p < R.states → marked marks p ≡ true → marked (round R lowers marks) p ≡ true
-  round_keeps marks p h e = round-at marks p h ∙ or-true-left _ e
+  round_keeps marks p h e = round-at marks p h ∙ or_left _ _ e
 
   -- and marks all states one move away
   pub round-adds : (marks : List Bool) (p p' : ℕ) → p < R.states → p' < R.states → marked marks p ≡ true
       → one_move R lowers p p' ≡ true → marked (round R lowers marks) p' ≡ true
   round-adds marks p p' h h' e one =
       round-at marks p' h'
-      ∙ or_true_right (marked marks p')
-      (below-any R.states (λ q. marked marks q && one_move R lowers q p') p h (both_true e one))
+      ∙ or_right (marked marks p') _
+      (below-any R.states (λ q. marked marks q && one_move R lowers q p') p h (and_from _ _ e one))
 
 -- where a round adds nothing, what it marks was marked
 pub nothing-added : (R : Rule) (before after : List Bool) → adds R before after ≡ false → (p : ℕ) → p < R.states
@@ -171,7 +173,7 @@ module _ (R : Rule) (step : List Bool → List Bool)
   -- after a round that adds nothing no round adds anything
   pub round-rests : (marks : List Bool) → adds R marks (step marks) ≡ false → step (step marks) ≡ step marks
   round-rests marks e =
-      alike (step marks) marks (λ p h. same_truth _ _ (nothing-added R marks (step marks) e p h) (keeps marks p h))
+      alike (step marks) marks (λ p h. one_truth _ _ (nothing-added R marks (step marks) e p h) (keeps marks p h))
 
   adds_none : (marks : List Bool) → adds R marks marks ≡ false
   unfolding adds
@@ -188,7 +190,7 @@ module _ (R : Rule) (step : List Bool → List Bool)
   unfolding adds
   adds-more marks e =
       let s = any_below_lem R.states (λ p. marked (step marks) p && not (marked marks p)) e in
-      let b = and-true (marked (step marks) s.0) _ s.2 in
+      let b = and_parts (marked (step marks) s.0) _ s.2 in
       count_less R.states (marked marks) (marked (step marks)) (keeps marks) s.0 s.1 (not-true _ b.1) b.0
 
   module _ (q : ℕ) (low : q < R.states) (there : marked start q ≡ true) where
@@ -203,7 +205,7 @@ module _ (R : Rule) (step : List Bool → List Bool)
         ))
     many-marked (suc i) e =
         let added : adds R (after i) (after (suc i)) ≡ true =
-        ⊎_elim (λ t. t) (λ f. true-is-not-false e (rests i f)) (truth (adds R (after i) (after (suc i)))) in
+        ⊎_elim (λ t. t) (λ f. true-is-not-false e (rests i f)) (cases_Bool (adds R (after i) (after (suc i)))) in
         let more = adds-more (after (suc i)) (rw (next-round (suc i)) at e) in
         rw (next-round (suc i)) (omega (arith, many-marked i added, more))
 
@@ -211,11 +213,11 @@ module _ (R : Rule) (step : List Bool → List Bool)
     pub last-adds-none : R.states ≤ 64 → adds R (rounds step 63 start) (rounds step 64 start) ≡ false
     last-adds-none few =
         ⊎_elim (λ e. absurd (omega (arith, many-marked 63 e, count_most R.states (marked (after 64)), few))) (λ f. f)
-        (truth (adds R (after 63) (after 64)))
+        (cases_Bool (adds R (after 63) (after 64)))
 
 pub most-states : {R : Rule} → IsRule R → R.states ≤ 64
 unfolding is_states
-most-states {R} rule = leb-true R.states 64 (and-true (1 ≤? R.states) _ rule.states_in).1
+most-states {R} rule = leb-true R.states 64 (and_parts (1 ≤? R.states) _ rule.states_in).1
 
 -- ---- the states in which a tree can end
 
@@ -266,7 +268,7 @@ module _ (R : Rule) where
 
   -- with no tree start no round adds
   none-ends : tree_start_move R ≡ no_move → (i p : ℕ) → marked (ends_in R i) p ≡ false
-  none-ends none i p = not-true-false _ (λ t. no-start-no-ends none (marked-ends i p t))
+  none-ends none i p = false_from_ne_true _ (λ t. no-start-no-ends none (marked-ends i p t))
 
   -- the 64th round never adds
   pub ends-never-used-up : IsRule R → adds R (ends_in R 63) (ends_in R 64) ≡ false
@@ -365,4 +367,4 @@ module _ (R : Rule) where
 pub never-used-up : (R : Rule) → IsRule R → rounds_used_up R ≡ false
 unfolding rounds_used_up
 never-used-up R rule =
-    both_false (ends-never-used-up R rule) (any-below-fails R.states _ (λ q h. reach-never-used-up R rule q h))
+    or_from _ _ (ends-never-used-up R rule) (any-below-fails R.states _ (λ q h. reach-never-used-up R rule q h))

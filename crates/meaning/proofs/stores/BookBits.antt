@@ -3,11 +3,13 @@
 -- passes, every state that is asked for lies below n, and stays there while events are taken.
 use mathlib.Core.Path.{◌≡◌, refl, sym, ap, ◌∙◌}
 use mathlib.Core.Bool.{Bool, true, false}
+use mathlib.Core.Logic.{⊎_elim}
 use mathlib.Core.List.{List, ◌++◌}
 use Prim.Native.Nat.{ℕ, ◌+◌, ◌≤◌, ◌<◌}
 use native.Mathlib.Omega.{arith}
 use lib.ListN.{length, get_or-append}
 use borrow.Author.Tests.{ltb-true}
+use Rattle.std.proofs.lemmas.Bool.{cases_Bool}
 use Rattle.meaning.specs.declared.Reading.{Reading}
 use Rattle.meaning.specs.declared.Level.{Level}
 use Rattle.meaning.specs.Answers.{Answer, given, refused, ◌giving◌, ◌<?◌}
@@ -16,7 +18,6 @@ use Rattle.meaning.specs.FullReading.{Event, opens, closes, letter, event_of}
 use Rattle.meaning.specs.SkipBook.{bit, in_still, in_hold}
 use Rattle.meaning.specs.Skipping.{held, settled, ends_level, settled_turn, skip_turn, skip_event, SameSets, Zeros}
 use Rattle.meaning.specs.Calls.{Stored, top_of, store_step, not_reading, reading_check, feed_call, finish_call}
-use Rattle.meaning.proofs.laws.Truths.{by_cases}
 use Rattle.meaning.proofs.laws.FeedKeeps.{feed-alike}
 use Rattle.meaning.proofs.rulefile.Accepted.{accepted-is-rule}
 use Rattle.meaning.proofs.skipbook.BookLong.{long-passes}
@@ -66,10 +67,10 @@ module _ {R : Rule} {book book' : List ℕ} (same : SameSets R book book') (r : 
   held-alike : held book r top ≡ held book' r top
   unfolding held
   held-alike =
-      by_cases (0 <? r.depth)
+      ⊎_elim
       (λ deep.
       cc (same.hold_same top.above r.state (below-states _ _ (above_in (ltb-true 0 _ deep))) (below-states _ _ state_in)))
-      (λ flat. rw flat)
+      (λ flat. rw flat) (cases_Bool (0 <? r.depth))
 
   settled-alike : settled book r top ≡ settled book' r top
   unfolding settled

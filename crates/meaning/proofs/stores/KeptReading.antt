@@ -9,6 +9,7 @@ use native.Mathlib.Omega.{arith}
 use lib.ListN.{length, get_or, set, length-set}
 use lib.Seq.{get_or-set_same, get_or-set_other}
 use borrow.Author.Tests.{ltb-true, ltb-false, lt-ltb, le-ltb}
+use Rattle.std.proofs.lemmas.Bool.{and_parts, false_from_ne_true, not-false, not_from_true, or_from, or_parts}
 use Rattle.meaning.specs.declared.Reading.{Reading}
 use Rattle.meaning.specs.declared.Level.{Level}
 use Rattle.meaning.specs.Answers.{given, ◌<?◌}
@@ -17,8 +18,7 @@ use Rattle.meaning.specs.FullReading.{Event, Turn, looked, new_level, blank, fee
 use Rattle.meaning.specs.SkipBook.{in_hold}
 use Rattle.meaning.specs.Skipping.{held, settled, passed}
 use Rattle.meaning.specs.Calls.{Stored, top_of, stored_after, store_step, not_reading}
-use Rattle.meaning.proofs.laws.Answered.{and-true, or-false, not-false-true, true-not-false}
-use Rattle.meaning.proofs.laws.Bools.{below, all-below, below_all, both_false, true-is-not-false, not-true-false}
+use Rattle.meaning.proofs.laws.Bools.{below, all-below, below_all, true-is-not-false}
 use Rattle.meaning.proofs.laws.FeedKeeps.{feed-keeps}
 use Rattle.meaning.proofs.skipbook.Reaching.{letter-below, tree-below, start-below}
 use Rattle.meaning.proofs.stores.StoreView.{step-turned}
@@ -39,26 +39,26 @@ unfolding is_state
 is_state_lem {n} {q} h = lt-ltb q n h
 
 skips-only : (n : ℕ) (b : Bool) → (0 <? n && not b) ≡ false → 0 < n → b ≡ true
-skips-only n b e h = not-false-true (rw (lt-ltb 0 n h) at e)
+skips-only n b e h = not-false _ (rw (lt-ltb 0 n h) at e)
 
 only-skips : (n : ℕ) (b : Bool) → (0 < n → b ≡ true) → (0 <? n && not b) ≡ false
 only-skips n b h =
-    not-true-false _ (λ t. let both = and-true (0 <? n) (not b) t in
-    true-is-not-false both.1 (true-not-false (h (ltb-true 0 n both.0))))
+    false_from_ne_true _ (λ t. let both = and_parts (0 <? n) (not b) t in
+    true-is-not-false both.1 (not_from_true _ (h (ltb-true 0 n both.0))))
 
 module _ (R : Rule) (book : List ℕ) (r : Reading) (store : List Level) where
   pub is-reading : not_reading R book r store ≡ false → IsReading R book r store
   unfolding not_reading
   is-reading e =
-      let e1 = or-false _ _ e in
-      let e2 = or-false _ _ e1.1 in
-      let e3 = or-false _ _ e2.1 in
-      let e4 = or-false _ _ e3.1 in
-      let e5 = or-false _ _ e4.1 in
+      let e1 = or_parts _ _ e in
+      let e2 = or_parts _ _ e1.1 in
+      let e3 = or_parts _ _ e2.1 in
+      let e4 = or_parts _ _ e3.1 in
+      let e5 = or_parts _ _ e4.1 in
       record {
-        state_in = not-false-true e1.0;
+        state_in = not-false _ e1.0;
         within = ltb-false _ _ e2.0;
-        above_in = all-below _ _ (not-false-true e3.0);
+        above_in = all-below _ _ (not-false _ e3.0);
         skips_settled = skips-only r.skip (settled book r (top_of r store)) e4.0;
         nested = ltb-false _ _ e5.0;
         looks_in = ltb-false _ _ e5.1;
@@ -67,18 +67,18 @@ module _ (R : Rule) (book : List ℕ) (r : Reading) (store : List Level) where
   pub reading-is : IsReading R book r store → not_reading R book r store ≡ false
   unfolding not_reading
   reading-is i =
-      both_false (true-not-false i.state_in)
-      (both_false (le-ltb _ _ i.within)
-      (both_false (true-not-false (below_all _ _ i.above_in))
-      (both_false (only-skips r.skip (settled book r (top_of r store)) i.skips_settled)
-      (both_false (le-ltb _ _ i.nested) (le-ltb _ _ i.looks_in)))))
+      or_from _ _ (not_from_true _ i.state_in)
+      (or_from _ _ (le-ltb _ _ i.within)
+      (or_from _ _ (not_from_true _ (below_all _ _ i.above_in))
+      (or_from _ _ (only-skips r.skip (settled book r (top_of r store)) i.skips_settled)
+      (or_from _ _ (le-ltb _ _ i.nested) (le-ltb _ _ i.looks_in)))))
 
 -- ---- one event
 
 -- a held level is not the top
 pub held-deep : (book : List ℕ) (r : Reading) (l : Level) → held book r l ≡ true → 0 < r.depth
 unfolding held
-held-deep book r l is = ltb-true 0 r.depth (and-true (0 <? r.depth) (in_hold book l.above r.state) is).0
+held-deep book r l is = ltb-true 0 r.depth (and_parts (0 <? r.depth) (in_hold book l.above r.state) is).0
 
 -- the skip depth plays no part in what is settled
 passed-settled : (book : List ℕ) (r : Reading) (store : List Level) (skip : ℕ) → settled book r (top_of r store) ≡ true

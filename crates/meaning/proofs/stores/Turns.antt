@@ -7,6 +7,7 @@ use mathlib.Core.List.{List}
 use Prim.Native.Nat.{ℕ, ◌+◌, ◌-◌, ◌≤◌, ◌<◌}
 use native.Mathlib.Omega.{arith}
 use borrow.Author.Tests.{ltb-false, leb-false, eqb-false}
+use Rattle.std.proofs.lemmas.Bool.{or_parts}
 use Rattle.meaning.specs.declared.Reading.{Reading}
 use Rattle.meaning.specs.declared.Level.{Level}
 use Rattle.meaning.specs.Answers.{Answer, given, refused, refuse◌at◌when◌otherwise◌, ◌<?◌, ◌≤?◌, ◌=?◌}
@@ -14,7 +15,6 @@ use Rattle.meaning.specs.RuleFile.{Rule, Move, no_move, to, letter_move, tree_mo
 use Rattle.meaning.specs.FullReading.{Event, opens, closes, letter, event_of, looked, new_level, Table, look, Turn, stays, stores, ends, full_turn, known_event, most_events}
 use Rattle.meaning.specs.SkipBook.{in_still}
 use Rattle.meaning.specs.Skipping.{held, settled, passed, ends_level, settled_turn, skip_turn, skip_event}
-use Rattle.meaning.proofs.laws.Answered.{or-false}
 use Rattle.meaning.proofs.laws.Bools.{true-is-not-false}
 use Rattle.meaning.proofs.laws.Events.{known-letter}
 
@@ -87,7 +87,7 @@ module _ (R : Rule) (book : List ℕ) (room ceiling : ℕ) (r : Reading) (top : 
       gives-refuse 8 r.taken (room ≤? r.depth) _ (λ fits.
       gives-refuse 9 r.taken (ceiling ≤? r.looks) _ (λ below.
       gives-look _ _ _ _ (λ q m. stores_open q is_not (leb-false _ _ fits) m)))
-  full-turned closes known is_not = close-turned (or-false (in_still book r.state) (held book r top) is_not).1 (λ is. true-is-not-false is is_not)
+  full-turned closes known is_not = close-turned (or_parts (in_still book r.state) (held book r top) is_not).1 (λ is. true-is-not-false is is_not)
 
   ends_turned : r.skip ≡ 0 → Gives (Turned R book room r top closes) (ends_level R book room ceiling r top)
   unfolding ends_level

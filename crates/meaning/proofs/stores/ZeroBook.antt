@@ -1,11 +1,12 @@
 -- A book of zeros gives full reading: no level is settled by it, so each event is read as in full reading, and so is any run of
 -- events, whatever the rule, the run and the limits are.
 use mathlib.Core.Path.{◌≡◌, refl}
-use mathlib.Core.Bool.{Bool, true, false, ◌&&◌}
+use mathlib.Core.Bool.{false}
 use mathlib.Core.List.{List}
 use Prim.Native.Nat.{ℕ, zero, suc, ◌+◌}
 use native.Mathlib.Nat.{zero-div}
 use lib.ListN.{get_or, replicate}
+use Rattle.std.proofs.lemmas.Bool.{and_right}
 use Rattle.meaning.specs.declared.Reading.{Reading}
 use Rattle.meaning.specs.declared.Level.{Level}
 use Rattle.meaning.specs.Answers.{◌<?◌}
@@ -27,10 +28,6 @@ pub zero_bit : (word p : ℕ) → word ≡ 0 → bit word p ≡ false
 unfolding bit
 zero_bit word p e = rw (e, zero-div)
 
-and-false : (b c : Bool) → c ≡ false → (b && c) ≡ false
-and-false true c e = e
-and-false false c e = refl
-
 module _ (book : List ℕ) (no_word : Zeros book) where
   pub none-still : (q : ℕ) → in_still book q ≡ false
   unfolding in_still
@@ -38,7 +35,7 @@ module _ (book : List ℕ) (no_word : Zeros book) where
 
   none-held : (r : Reading) (top : Level) → held book r top ≡ false
   unfolding held in_hold
-  none-held r top = and-false (0 <? r.depth) _ (zero_bit (get_or book (1 + top.above) 0) r.state (no_word (1 + top.above)))
+  none-held r top = and_right (0 <? r.depth) _ (zero_bit (get_or book (1 + top.above) 0) r.state (no_word (1 + top.above)))
 
   pub none-settled : (r : Reading) (top : Level) → settled book r top ≡ false
   unfolding settled

@@ -11,11 +11,11 @@ returns-in_err-checked-clause-refuses c =
     let p = err_from_is_err_and c.from_residual.result c.from_residual.ensures.1 in
     rw (p.1, p.2) (answer-rule c.args.file.now _ _ _ _ c.in_err-checked.ensures.refuses)
 
-pub returns-then-book-checked-clause-refuses : goal.returns-then-book-checked-clause-refuses
+pub returns-then-book-from-clause-refuses : goal.returns-then-book-from-clause-refuses
 unfolding refusal_says number_of
-returns-then-book-checked-clause-refuses c =
+returns-then-book-from-clause-refuses c =
     let h = rw c.in_ok-checked.ensures.accepts.0 at c.in_ok-checked.checked.accepted in
-    rw c.at.ensures (answer-short _ _ _ _ h (omega (arith, c.if-book-checked.true)))
+    rw c.at.ensures (answer-short _ _ _ _ h (omega (arith, c.from.ensures, c.if-book-from.true)))
 
 pub not_reading-requires-clause-few_states : goal.not_reading-requires-clause-few_states
 not_reading-requires-clause-few_states c = few-states c.in_ok-checked.checked.accepted
@@ -25,12 +25,12 @@ unfolding refusal_says number_of
 returns-then-not_reading-clause-refuses c =
     let h = rw c.in_ok-checked.ensures.accepts.0 at c.in_ok-checked.checked.accepted in
     rw c.at-then-not_reading.ensures
-    (answer-unread _ _ _ _ h (omega (arith, c.if-book-checked.false)) (sym (c.not_reading.ensures _ (states-are h)) ∙ c.if-not_reading.true))
+    (answer-unread _ _ _ _ h (omega (arith, c.from.ensures, c.if-book-from.false)) (sym (c.not_reading.ensures _ (states-are h)) ∙ c.if-not_reading.true))
 
 pub returns-clause-admits : goal.returns-clause-admits
 returns-clause-admits c =
     let accepts = c.in_ok-checked.ensures.accepts in
     let h = rw accepts.0 at c.in_ok-checked.checked.accepted in (
       accepts.0,
-      answer-fine _ _ _ _ h (omega (arith, c.if-book-checked.false)) (sym (c.not_reading.ensures _ (states-are h)) ∙ c.if-not_reading.false),
+      answer-fine _ _ _ _ h (omega (arith, c.from.ensures, c.if-book-from.false)) (sym (c.not_reading.ensures _ (states-are h)) ∙ c.if-not_reading.false),
     )

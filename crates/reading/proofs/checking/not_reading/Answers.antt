@@ -1,13 +1,13 @@
 -- The state and the store, the skip depth, and the counts: the first condition that holds is the definition's.
 use Rattle.std.proofs.Common.{◌≡◌, sym, ◌∙◌, not, Bool, false, ◌||◌, List, ℕ, ◌-◌, ◌<◌, get_or, arith}
 use borrow.Author.Tests.{ltb-true, not-false}
+use Rattle.std.proofs.lemmas.Bool.{or_parts}
 use Rattle.meaning.specs.RuleFile as format
 use Rattle.meaning.specs.RuleFile.{is_state}
 use Rattle.meaning.specs.FullReading.{blank}
 use Rattle.meaning.specs.Calls.{top_of, depth_past_store, skips_unsettled, levels_past_taken, looks_past_taken, not_reading}
 use Rattle.meaning.specs.declared.Level.{Level}
 use Rattle.meaning.specs.declared.Reading.{Reading}
-use Rattle.meaning.proofs.laws.Answered.{or-false}
 use Rattle.meaning.proofs.laws.Bools.{all-below}
 use Rattle.reading.specs.Checks.{aboves_in}
 use Rattle.reading.proofs.Conditions.{or-holds, or-decides, holds-first, decides-last, in-a-row}
@@ -26,8 +26,8 @@ record Inside (n : ℕ) (r : Reading) (store : List Level) : Type 0 where
 inside : (n : ℕ) (r : Reading) (store : List Level) → out_of n r store ≡ false → Inside n r store
 unfolding is_state top_of
 inside n r store none =
-    let state = or-false (not (is_state n r.state)) (depth_past_store r store || not (aboves_in n r.depth store)) none in
-    let stored = or-false (depth_past_store r store) (not (aboves_in n r.depth store)) state.1 in
+    let state = or_parts (not (is_state n r.state)) (depth_past_store r store || not (aboves_in n r.depth store)) none in
+    let stored = or_parts (depth_past_store r store) (not (aboves_in n r.depth store)) state.1 in
     let aboves = all-below r.depth (λ i. is_state n (get_or store i blank).above) (not-false _ stored.1) in
     record {
       state_in = ltb-true _ _ (not-false _ state.0);

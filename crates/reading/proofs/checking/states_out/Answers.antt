@@ -1,10 +1,10 @@
 -- The first condition that holds is the definition's, and each that does not is passed.
 use Rattle.std.proofs.Common.{◌≡◌, sym, ap, ◌∙◌, not, Bool, ◌||◌, ℕ, ◌<◌, ◌≤◌, length}
 use borrow.Author.Tests.{lt-ltb, le-ltb, le-leb, ltb-false}
+use Rattle.std.proofs.lemmas.Bool.{or_parts}
 use Rattle.meaning.specs.Answers.{◌<?◌, ◌≤?◌}
 use Rattle.meaning.specs.RuleFile.{is_state}
 use Rattle.meaning.specs.Calls.{depth_past_store}
-use Rattle.meaning.proofs.laws.Answered.{or-false}
 use Rattle.reading.specs.Checks.{aboves_in}
 use Rattle.reading.proofs.Conditions.{holds-first, decides-last}
 use Rattle.reading.proofs.checking.states_out.Goals as goal
@@ -41,6 +41,6 @@ returns-else-room-depth c =
     ]
     in
     let deep : r.depth ≤ length store
-    = ltb-false (length store) r.depth (or-false (not (is_state c.args.states r.state)) (depth_past_store r store) (sym first ∙ c.if-room-depth.false)).1
+    = ltb-false (length store) r.depth (or_parts (not (is_state c.args.states r.state)) (depth_past_store r store) (sym first ∙ c.if-room-depth.false)).1
     in
     decides-last _ _ (not (aboves_in c.args.states r.depth store)) first c.if-room-depth.false (ap not (c.stored_in.ensures deep))

@@ -10,4 +10,4 @@ returns-then-reading-eq0 c = sym (rw (le-ltb 0 c.args.reading.depth (omega arith
 
 pub returns : goal.returns
 unfolding held in_hold
-returns c = c.in_set.ensures ∙ sym (rw (lt-ltb 0 c.args.reading.depth (omega arith)))
+returns c = (rw c.from-hold.ensures at c.in_set.ensures) ∙ sym (rw (lt-ltb 0 c.args.reading.depth (omega arith)))

@@ -1,4 +1,4 @@
--- The library's digits are the number's.
+-- The kit's digits are the number's.
 use Rattle.std.proofs.Common.{◌∙◌, rules}
 use Rattle.program.proofs.Laying.{lays-same}
 use Rattle.program.proofs.Decimals.{decimal-digits}
@@ -6,4 +6,5 @@ use Rattle.program.proofs.text.Text.number.Goals as goal
 
 pub returns : goal.returns
 returns c =
-    lays-same (c.as_bytes.ensures.value ∙ (c.format.ensures.text ∙ decimal-digits c.args.n (search rules))) c.word.ensures
+    let d = c.decimal-count in
+    lays-same (d.ensures.digits ∙ decimal-digits c.args.n d.result (search rules) d.ensures.len) c.word.ensures
