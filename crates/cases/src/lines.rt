@@ -37,7 +37,7 @@ impl fmt::Display for Answer {
     fn fmt<W: fmt::Write>(&self, f: &mut fmt::Formatter<W>) -> fmt::Result {
         match self.0 {
             Ok(given) => write!(f, "{given}"),
-            Err(refusal) => write!(f, "refused {} {}", refusal.number, refusal.place),
+            Err(refusal) => write!(f, "{refusal}"),
         }
     }
 }

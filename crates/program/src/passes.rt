@@ -6,10 +6,9 @@ ghost use Rattle.meaning.specs.CheckProgram.{program_levels};
 ghost use Rattle.program.specs.Passes.{pass_says, fed_on};
 
 use meaning::{Judgement, Level, Reading, Refusal};
+use reading::LARGEST_CEILING;
 
-// The largest ceiling, and the levels of a pass. Its own const, since reading exports none.
-const CEILING: u32 = u32::MAX;
-
+// The levels of a pass.
 const LEVELS: usize = 1024;
 
 // A reading so far: once an event is refused, no more is taken.
@@ -48,7 +47,14 @@ impl Pass {
         ensures { pass_says self.new ≡ fed_on file.now book.now (pass_says self.old) events.now }
     {
         if self.ended.is_ok() {
-            let fed = reading::feed(file, book, CEILING, self.reading, &mut self.levels, events);
+            let fed = reading::feed(
+                file,
+                book,
+                LARGEST_CEILING,
+                self.reading,
+                &mut self.levels,
+                events,
+            );
             self.reading = fed.reading;
             self.ended = fed.ended;
         }
