@@ -56,7 +56,7 @@ pub fn union_of<F: Fn(u8) -> u64>(set: u64, set_of: F) -> u64
     all
 }
 
-// The set of those of the first states that pass a test.
+// The set of those of the first states that pass a test. The bound is the bits of a word; whoever has a rule has it from the rule.
 pub fn states_with<F: Fn(u8) -> bool>(states: u8, test: F) -> u64
     requires few_states { states ≤ 64 }
     requires callable { (state : ℕ) → state < states → F.pre test state }

@@ -17,7 +17,8 @@ pub fn top_place(reading: Reading) -> usize
 }
 
 impl<'a> Standing<'a> {
-    // One event: what its turn says becomes of the reading, and of the store.
+    // One event: what its turn says becomes of the reading, and of the store. That the level is settled as told is a premise and no
+    // field: it is of a book, which is asked before and not handed on.
     fn take_event(&self, settled: Settled, events: &[u16], next: usize) -> Advance
         requires { next < length events.now }
         ensures { (book : List ℕ) (store : List Level) → Stands book self.now.reading self.now.top settled → FeedsBy book self.now store → top_of self.now.reading store ≡ self.now.top → length store ≡ self.now.room → AdvancesBy book self.now store events.now next result }

@@ -25,7 +25,7 @@ impl Settled {
         Settled::by(book, reading, in_hold(book, reading, top))
     }
 
-    // The same, where it is known whether the level is held.
+    // The same, where it is known whether the level is held. A flag, since this call asks for no more of the book than it did.
     pub fn by(book: &[u64], reading: Reading, held: bool) -> Self
         requires state_bit { reading.state < 64 }
         requires still_word { 0 < length book.now }
@@ -64,7 +64,8 @@ fn in_set(word: u64, state: u8) -> bool
     (word >> state) % 2 == 1
 }
 
-// Whether the level has an upper state u and the state is in hold(u).
+// Whether the level has an upper state u and the state is in hold(u). What it asks of book, reading and record is asked in three
+// places, and by no type: nothing holds just these three.
 pub fn in_hold(book: &[u64], reading: Reading, top: Level) -> bool
     requires { BookServes book.now reading top }
     ensures { result ≡ skipping.held book.now reading top }
