@@ -17,12 +17,12 @@ impl Text {
         self.number(n);
     }
 
-    // A refusal's number and place.
+    // A refusal's number and place. By casts alike: a place is a usize, which has no `From`, and an edit exchanges the two.
     pub(crate) fn refusal(&mut self, r: Refusal)
         ensures { Lays self.old (line_bytes [] (refused r.number r.place)) self.new }
     {
         self.word(b" refused");
-        self.spaced(u64::from(r.number));
+        self.spaced(r.number as u64);
         self.spaced(r.place as u64);
         self.put(b'\n');
     }

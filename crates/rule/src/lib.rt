@@ -19,7 +19,8 @@ pub use kind::Kind;
 use meaning::Refusal;
 pub use range::Range;
 
-// The four numbers of a rule. The tree start is the file's byte, none counted, since an answer is promised for any. Its tables stay in the bytes of its file, where they are read at computed offsets.
+// The four numbers of a rule. The tree start is the file's byte, none counted, since an answer is promised for any. Its tables stay
+// in the bytes of its file, where they are read at computed offsets.
 #[derive(Clone, Copy, Debug, PartialEq, Eq, Hash)]
 pub struct Rule {
     pub states: u8,
@@ -48,7 +49,8 @@ impl Rule {
         Ok(rule)
     }
 
-    // A rule's numbers, where each is in range. They are handed over apart, since what has them all is a rule. The places of those that are not are the ones in its file.
+    // A rule's numbers, where each is in range. They are handed over apart, since what has them all is a rule. The places of those
+    // that are not are the ones in its file.
     pub fn of_numbers(
         states: u8,
         initial: u8,

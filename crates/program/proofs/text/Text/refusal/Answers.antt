@@ -5,4 +5,4 @@ use Rattle.program.proofs.text.Text.refusal.Goals as goal
 
 pub returns : goal.returns
 unfolding refused_word line_end line_bytes
-returns c = lays-then c.word.ensures (lays-then (rw c.from.ensures at c.spaced.ensures) (lays-then c.spaced-2.ensures c.put.ensures))
+returns c = lays-then c.word.ensures (lays-then c.spaced.ensures (lays-then c.spaced-2.ensures c.put.ensures))
