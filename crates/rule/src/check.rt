@@ -21,6 +21,7 @@ pub fn number2(file: &[u8], place: usize) -> u16
 }
 
 // The number that four bytes stand for.
+#[tactic(auto, unfolding(meaning::specs::RuleFile::number2, meaning::specs::RuleFile::number4))]
 pub fn number4(file: &[u8], place: usize) -> u32
     requires { place + 3 < length file.now }
     ensures { result ≡ number4 file.now place }
