@@ -114,6 +114,7 @@ fn body_check(
 
 // The three tables of a file whose numbers are in range, and nothing after them. No `CheckedRule`: this check is a part of what makes
 // one.
+#[tactic(auto, unfolding(meaning::specs::RuleFile::letter_record, meaning::specs::RuleFile::tree_record, meaning::specs::RuleFile::class_record, meaning::specs::RuleFile::file_length))]
 pub fn tables_check(file: &[u8], rule: Rule) -> Result<(), Refusal>
     ensures { says result ≡ tables_check file.now rule.states rule.letters }
 {
