@@ -13,6 +13,7 @@ use crate::tables::HEADER;
 use meaning::{Reason, Refusal};
 
 // The number that two bytes stand for.
+#[tactic(auto, unfolding(meaning::specs::RuleFile::number2))]
 pub fn number2(file: &[u8], place: usize) -> u16
     requires { place + 1 < length file.now }
     ensures { result ≡ number2 file.now place }
