@@ -4,7 +4,7 @@ use borrow.Author.Tests.{eq-eqb, ne_eqb}
 use Rattle.meaning.specs.Calls.{number_of}
 use Rattle.meaning.specs.Answers.{Answer, refused, refuse◌at◌when◌otherwise◌, ◌and_then◌, ◌=?◌}
 use Rattle.meaning.specs.RuleFile as format
-use Rattle.meaning.specs.RuleFile.{table_check, letter_record, tree_record, class_record, file_length, class_count, header_length, numbers_length}
+use Rattle.meaning.specs.RuleFile.{table_check, letter_record, class_count, header_length, numbers_length}
 use Rattle.meaning.proofs.laws.Answered.{refuse-passes, refuse-stops}
 use Rattle.meaning.proofs.laws.Handed.{refusal-at, handed_on, and_then-ok, and_then-err}
 use Rattle.rule.specs.declared.layout.Layout.{Layout}
