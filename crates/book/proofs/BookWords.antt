@@ -24,7 +24,7 @@ use Rattle.meaning.proofs.skipbook.Rounds.{most-states, start-marked}
 use Rattle.meaning.proofs.skipbook.Bits.{bit_word, bit-and, bit-only, bit-zero, same_bits}
 use Rattle.book.specs.Sets.{StandsFor, first_of, reached_word, Reached, changing, Holds}
 use Rattle.book.proofs.Standing.{stands-as, stands_word, first-true, first-in}
-use Rattle.book.proofs.Walked.{states-are}
+use Rattle.rule.proofs.Said.{states-are}
 use Rattle.book.proofs.InRounds.{reached-below, reached-last}
 
 -- a word that stands for the first n states that pass a test is the word of n marks

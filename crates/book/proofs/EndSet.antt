@@ -17,7 +17,8 @@ use Rattle.meaning.proofs.laws.Bools.{any-below-same, any-below-fails}
 use Rattle.meaning.proofs.skipbook.Reaching.{ends-below}
 use Rattle.meaning.proofs.skipbook.Rounds.{most-states, goes_to_lem, goes-true, end-keeps, end-alike, start-true, start-is-marked, start-length, marked-ends, ends-never-used-up}
 use Rattle.meaning.proofs.skipbook.Bits.{bit_word, bit-xor}
-use Rattle.book.proofs.Standing.{stands-as, stands_word, or-none}
+use Rattle.rule.proofs.Said.{or-none}
+use Rattle.book.proofs.Standing.{stands-as, stands_word}
 use Rattle.book.proofs.InRounds.{same-marks, next_word, word-stays, word-rests, same-adds, other-adds}
 use Rattle.book.specs.Sets.{StandsFor, StatesOf, joined, by_letters, by_trees, Moves, WithTrees, ends_word, EndsFound}
 

@@ -15,7 +15,7 @@ use Rattle.meaning.proofs.laws.Bools.{below-any, any-below-fails}
 use Rattle.rule.specs.declared.Rule as numbers
 use Rattle.rule.specs.Says.{RuleOf}
 use Rattle.book.specs.Sets.{StandsFor, Moves, EndsFound, joined, reached_word, Reached}
-use Rattle.book.proofs.Walked.{states-are}
+use Rattle.rule.proofs.Said.{states-are}
 use Rattle.book.proofs.InRounds.{first_word, reached-next-word, reached-rests, reached-same, reached-other}
 use Rattle.book.proofs.EndSet.{all_found, last-end-same, last-end-other}
 

@@ -19,6 +19,7 @@ use Rattle.meaning.specs.SkipBook.{any_below, bit, marked, word_of}
 use Rattle.meaning.proofs.laws.Truths.{true-is-not-false}
 use Rattle.meaning.proofs.laws.Bools.{last-or-below, below-any, any_below_lem, any-below-fails}
 use Rattle.meaning.proofs.skipbook.Bits.{bit-zero, bit-or, bit-and, bit-only, bit_past, word-of, lowest, cleared, cleared-less}
+use Rattle.rule.proofs.Said.{or-none}
 use Rattle.book.specs.Sets.{StandsFor, StatesOf, first_of}
 
 pub stands-empty : StandsFor 0 (λ p. false)
@@ -122,10 +123,6 @@ module _ (w : ℕ) (pos : 0 < w) (h : w < 2 ^ 64) (f : ℕ → Bool) where
   pub lowest-first : any_below 64 (λ m. bit w m && f m) ≡ (f (count_trailing_zeros 64 w) || any_below 64 (λ m. bit (bit_and w (w - 1)) m && f m))
   unfolding members others
   lowest-first = one_truth members (f (count_trailing_zeros 64 w) || others) there back
-
-pub or-none : (a : Bool) {b : Bool} → b ≡ false → (a || b) ≡ a
-or-none true e = refl
-or-none false e = e
 
 -- where the members are the first n states at most, some member is some of these
 pub members-below : (n w : ℕ) (f : ℕ → Bool) → n ≤ 64 → StatesOf n w

@@ -13,13 +13,12 @@ use Rattle.meaning.specs.Answers.{◌=?◌}
 use Rattle.meaning.specs.RuleFile as format
 use Rattle.meaning.specs.RuleFile.{Move, none, as_move, letter_move, tree_move, tree_start_move, rule_of}
 use Rattle.meaning.specs.SkipBook.{any_below, goes_to, none_or, bit}
-use Rattle.meaning.proofs.skipbook.Rounds.{most-states}
-use Rattle.meaning.proofs.rulefile.Accepted.{accepted-is-rule}
 use Rattle.rule.specs.declared.Rule.{Rule}
 use Rattle.rule.specs.Says.{numbers_of, RuleOf}
 use Rattle.rule.specs.declared.tables.Table.{Table}
 use Rattle.rule.specs.declared.tables.Table.TheVariants.{LetterMoves, TreeStart, TreeMoves}
 use Rattle.rule.specs.Tables.{letter_byte, tree_byte, move_says, move_in}
+use Rattle.rule.proofs.Said.{states-are, letters-are, few-states}
 use Rattle.rule.proofs.Looks.{found-is, letter-look, tree-look}
 use Rattle.book.specs.Sets.{StandsFor, StatesOf, by_letters, by_trees, first_of, changing}
 use Rattle.book.proofs.Standing.{stands-as, stands-only, stands-empty, stands-more, members-below}
@@ -59,34 +58,22 @@ tree_has R u m p = goes_to p (tree_move R u m)
 -- ---- the moves of an accepted file
 
 module _ {file : List ℕ} {rule : Rule} (ok : RuleOf file rule) where
-  pub states-are : (rule_of file).states ≡ rule.states
-  unfolding numbers_of
-  states-are = ap (λ (r : Rule). r.states) ok.numbers
-
-  pub letters-are : (rule_of file).letters ≡ rule.letters
-  unfolding numbers_of
-  letters-are = ap (λ (r : Rule). r.letters) ok.numbers
-
-  -- a rule has at most 64 states
-  pub few-states : rule.states ≤ 64
-  few-states = omega (arith, most-states (accepted-is-rule file ok.accepted), states-are)
-
   -- what was found among the letter moves, and among the tree moves
   pub letter-is : (q a : ℕ) {found : Result ℕ Table} → found ≡ move_in LetterMoves (letter_byte file rule.letters q a)
       → q < rule.states → a < rule.letters → move_says found ≡ letter_move (rule_of file) q a
   letter-is q a read hq ha =
       ap move_says read
       ∙ found-is LetterMoves _
-      ∙ ap (λ (k : ℕ). as_move (letter_byte file k q a)) (sym letters-are)
-      ∙ letter-look file ok.accepted q a (rw states-are hq) (rw letters-are ha)
+      ∙ ap (λ (k : ℕ). as_move (letter_byte file k q a)) (sym (letters-are ok))
+      ∙ letter-look file ok.accepted q a (rw (states-are ok) hq) (rw (letters-are ok) ha)
 
   pub tree_is : (u q : ℕ) {found : Result ℕ Table} → found ≡ move_in TreeMoves (tree_byte file rule.states rule.letters u q)
       → u < rule.states → q < rule.states → move_says found ≡ tree_move (rule_of file) u q
   tree_is u q read hu hq =
       ap move_says read
       ∙ found-is TreeMoves _
-      ∙ ap₂ (λ (n k : ℕ). as_move (tree_byte file n k u q)) (sym states-are) (sym letters-are)
-      ∙ tree-look file ok.accepted u q (rw states-are hu) (rw states-are hq)
+      ∙ ap₂ (λ (n k : ℕ). as_move (tree_byte file n k u q)) (sym (states-are ok)) (sym (letters-are ok))
+      ∙ tree-look file ok.accepted u q (rw (states-are ok) hu) (rw (states-are ok) hq)
 
   pub start_is : {found : Result ℕ Table} → found ≡ move_in TreeStart rule.tree_start → move_says found ≡ tree_start_move (rule_of file)
   unfolding numbers_of tree_start_move
@@ -101,7 +88,7 @@ module _ {file : List ℕ} {rule : Rule} (ok : RuleOf file rule) where
   pub letters-walked : (q set : ℕ) → Walked (letter_move (rule_of file) q) rule.letters set → StandsFor set (by_letters (rule_of file) q)
   unfolding by_letters
   letters-walked q set s =
-      stands-as set _ _ (λ p h. ap (λ (k : ℕ). any_below k (λ a. goes_to p (letter_move (rule_of file) q a))) (sym letters-are)) s
+      stands-as set _ _ (λ p h. ap (λ (k : ℕ). any_below k (λ a. goes_to p (letter_move (rule_of file) q a))) (sym (letters-are ok))) s
 
   -- what some lower state of a set has, where these are states
   pub trees-joined : (u lowers set : ℕ) → StatesOf rule.states lowers → StandsFor set (λ p. any_below 64 (λ m. bit lowers m && goes_to p (tree_move (rule_of file) u m)))
@@ -109,8 +96,8 @@ module _ {file : List ℕ} {rule : Rule} (ok : RuleOf file rule) where
   unfolding by_trees
   trees-joined u lowers set states =
       let R : format.Rule = rule_of file in
-      stands-as set _ _ (λ p h. members-below rule.states lowers (λ m. goes_to p (tree_move R u m)) few-states states
-      ∙ ap (λ (n : ℕ). any_below n (λ m. bit lowers m && goes_to p (tree_move R u m))) (sym states-are))
+      stands-as set _ _ (λ p h. members-below rule.states lowers (λ m. goes_to p (tree_move R u m)) (few-states ok) states
+      ∙ ap (λ (n : ℕ). any_below n (λ m. bit lowers m && goes_to p (tree_move R u m))) (sym (states-are ok)))
 
   -- what the look with a lower state finds leads where that lower state does
   pub tree-goes : (u m w : ℕ) {found : Result ℕ Table} → found ≡ move_in TreeMoves (tree_byte file rule.states rule.letters u m)
@@ -122,4 +109,4 @@ module _ {file : List ℕ} {rule : Rule} (ok : RuleOf file rule) where
       → StandsFor set (changing (rule_of file) u)
   unfolding changing
   changes-gathered u set s =
-      stands-as set _ _ (λ p h. ap (λ (n : ℕ). first_of n (λ l. not (none_or u (tree_move (rule_of file) u l))) p) (sym states-are)) s
+      stands-as set _ _ (λ p h. ap (λ (n : ℕ). first_of n (λ l. not (none_or u (tree_move (rule_of file) u l))) p) (sym (states-are ok))) s

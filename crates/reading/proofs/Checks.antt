@@ -27,7 +27,7 @@ use Rattle.turning.specs.Turns.{Feeds, over}
 use Rattle.turning.specs.Advancing.{Gone}
 use Rattle.turning.specs.declared.Going.{Going}
 use Rattle.turning.proofs.Steps.{turn-ready}
-use Rattle.turning.proofs.Turned.{states-are}
+use Rattle.rule.proofs.Said.{states-are}
 use Rattle.reading.specs.Feeding.{FedIs, fed_of}
 use Rattle.reading.specs.Checks.{reading_answer}
 

@@ -25,7 +25,7 @@ use Rattle.turning.specs.Turns.{Feeds, over}
 use Rattle.turning.specs.Advancing.{ended_at, Gone}
 use Rattle.turning.specs.declared.Going.{Going}
 use Rattle.turning.proofs.Steps.{turn-ready}
-use Rattle.turning.proofs.Turned.{states-are}
+use Rattle.rule.proofs.Said.{states-are}
 use Rattle.reading.specs.Whole.{end_fed, ReadIs}
 
 -- what feeding a first reading with the largest ceiling comes to

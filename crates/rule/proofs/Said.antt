@@ -1,16 +1,19 @@
--- What the answers of the rule check say to a caller: a rule that was given is the accepted file's, a refusal is the check's.
-use mathlib.Core.Path.{◌≡◌, refl, sym}
-use Prim.Native.Nat.{ℕ}
+-- What the answers of the rule check say to a caller: a rule that was given is the accepted file's, a refusal is the check's. And
+-- what a rule that was given has of the file: its numbers, and the bound of its states.
+use mathlib.Core.Path.{◌≡◌, refl, sym, ap}
+use mathlib.Core.Bool.{Bool, false, ◌||◌, or-false}
+use Prim.Native.Nat.{ℕ, ◌≤◌}
 use mathlib.Core.List.{List}
 use native.Mathlib.Omega.{arith}
 use Rattle.meaning.specs.Answers.{Answer, given, refused, ◌giving◌}
 use Rattle.meaning.specs.RuleFile as format
-use Rattle.meaning.specs.RuleFile.{check_rule}
+use Rattle.meaning.specs.RuleFile.{check_rule, rule_of}
 use Rattle.std.specs.Prelude.{Ok, Err}
 use Rattle.meaning.specs.Calls.{refusal_says, says}
 use Rattle.meaning.specs.declared.Refusal.{Refusal}
 use Rattle.meaning.proofs.laws.Answered.{giving-given}
-use Rattle.meaning.proofs.rulefile.Accepted.{accepted-rule}
+use Rattle.meaning.proofs.rulefile.Accepted.{accepted-rule, accepted-is-rule}
+use Rattle.meaning.proofs.skipbook.Rounds.{most-states}
 use Rattle.rule.specs.declared.Rule.{Rule}
 use Rattle.rule.specs.declared.tables.Table.{Table}
 use Rattle.rule.specs.declared.tables.Table.TheVariants as table
@@ -31,6 +34,19 @@ ruled-by file rule e =
     let f = fine-accepted file rule e in
     let same = accepted-rule file f.1 in
     record { accepted = rw same f.1; numbers = rw same f.2 }
+
+module _ {file : List ℕ} {rule : Rule} (ruled : RuleOf file rule) where
+  pub states-are : (rule_of file).states ≡ rule.states
+  unfolding numbers_of
+  states-are = ap (λ (r : Rule). r.states) ruled.numbers
+
+  pub letters-are : (rule_of file).letters ≡ rule.letters
+  unfolding numbers_of
+  letters-are = ap (λ (r : Rule). r.letters) ruled.numbers
+
+  -- a rule has at most 64 states
+  pub few-states : rule.states ≤ 64
+  few-states = omega (arith, most-states (accepted-is-rule file ruled.accepted), states-are)
 
 pub giving-refused : {A B : Type 0} (x : Answer A) (f : A → Answer B) (number place : ℕ)
     → ((a : A) → (b : B) × (f a ≡ given b)) → (x giving f) ≡ refused number place → x ≡ refused number place
@@ -59,3 +75,7 @@ table-says table.TreeStart table.TreeMoves e = cc
 table-says table.TreeMoves table.LetterMoves e = cc
 table-says table.TreeMoves table.TreeStart e = cc
 table-says table.TreeMoves table.TreeMoves e = refl
+
+-- a test joined with one that fails is that test
+pub or-none : (a : Bool) {b : Bool} → b ≡ false → (a || b) ≡ a
+or-none a e = rw e (or-false a)

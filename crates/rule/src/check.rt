@@ -13,6 +13,7 @@ use crate::tables::HEADER;
 use meaning::{Reason, Refusal};
 
 // The number that two bytes stand for.
+#[tactic(auto, unfolding(meaning::specs::RuleFile::number2))]
 pub fn number2(file: &[u8], place: usize) -> u16
     requires { place + 1 < length file.now }
     ensures { result ≡ number2 file.now place }
@@ -21,6 +22,7 @@ pub fn number2(file: &[u8], place: usize) -> u16
 }
 
 // The number that four bytes stand for.
+#[tactic(auto, unfolding(meaning::specs::RuleFile::number2, meaning::specs::RuleFile::number4))]
 pub fn number4(file: &[u8], place: usize) -> u32
     requires { place + 3 < length file.now }
     ensures { result ≡ number4 file.now place }
@@ -113,6 +115,7 @@ fn body_check(
 
 // The three tables of a file whose numbers are in range, and nothing after them. No `CheckedRule`: this check is a part of what makes
 // one.
+#[tactic(auto, unfolding(meaning::specs::RuleFile::letter_record, meaning::specs::RuleFile::tree_record, meaning::specs::RuleFile::class_record, meaning::specs::RuleFile::file_length))]
 pub fn tables_check(file: &[u8], rule: Rule) -> Result<(), Refusal>
     ensures { says result ≡ tables_check file.now rule.states rule.letters }
 {

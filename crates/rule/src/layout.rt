@@ -22,6 +22,7 @@ pub struct Layout {
 }
 
 impl Layout {
+    #[tactic(auto, unfolding(meaning::specs::RuleFile::letter_record, meaning::specs::RuleFile::tree_record, meaning::specs::RuleFile::class_record, meaning::specs::RuleFile::file_length))]
     pub fn of(rule: Rule) -> Self
         ensures { IsLayout rule.states rule.letters result }
     {

@@ -90,6 +90,7 @@ pub fn tree_move(file: &[u8], rule: Rule, upper: u8, lower: u8) -> Result<u8, Ta
 }
 
 // The class of a state, as the file has it.
+#[tactic(auto, unfolding(meaning::specs::RuleFile::letter_record, meaning::specs::RuleFile::tree_record, meaning::specs::RuleFile::class_record, meaning::specs::RuleFile::file_length))]
 pub fn class_at(file: &[u8], rule: Rule, state: u8) -> u8
     ensures { result ≡ class_byte file.now rule.states rule.letters state }
 {

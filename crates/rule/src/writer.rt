@@ -81,6 +81,7 @@ fn tables(output: &mut [u8], parts: Parts)
 }
 
 // The lengths of the tables that are given, and then their bytes; the places are those in the file to be.
+#[tactic(auto, unfolding(meaning::specs::RuleFile::letter_record, meaning::specs::RuleFile::tree_record, meaning::specs::RuleFile::class_record, meaning::specs::RuleFile::file_length))]
 fn given_check(parts: Parts) -> Result<(), Refusal>
     ensures { says result ≡ given_check (parts_rule parts.entry) }
 {

@@ -31,7 +31,7 @@ use Rattle.turning.specs.declared.PassedTo.{PassedTo}
 use Rattle.turning.specs.declared.settling.Settled.{Settled}
 use Rattle.meaning.proofs.stores.Took.{step-taken}
 use Rattle.turning.proofs.PassesOn.{on-settled}
-use Rattle.turning.proofs.Turned.{letters-are}
+use Rattle.rule.proofs.Said.{letters-are}
 use Rattle.turning.proofs.Steps.{reading-in, turn-ready}
 
 -- ---- a run that was passed over leaves a reading

@@ -20,7 +20,7 @@ use Rattle.rule.specs.declared.Rule.{Rule}
 use Rattle.turning.specs.declared.Turn.{Turn}
 use Rattle.meaning.specs.declared.reason.Reason.{Reason}
 use Rattle.turning.specs.Turns.{turn_says, Ready, Feeds, over}
-use Rattle.turning.proofs.Turned.{states-are}
+use Rattle.rule.proofs.Said.{states-are}
 
 -- ---- what a turn may count on
 

@@ -4,7 +4,7 @@ use Rattle.std.proofs.Common.{if◌then◌else◌, Result, Ok, Err}
 use Rattle.std.specs.Result.{IsErrAnd}
 use Rattle.std.proofs.lemmas.Result.{err_from_is_err_and}
 use mathlib.Core.Path.{◌≡◌, refl, ap, ◌∙◌}
-use mathlib.Core.Bool.{Bool, true, false, ◌||◌}
+use mathlib.Core.Bool.{Bool, true, false}
 use mathlib.Core.List.{List}
 use Prim.Native.Nat.{ℕ, zero, suc, ◌+◌, ◌-◌, ◌≤◌, ◌<◌}
 use native.Mathlib.Omega.{arith}
@@ -12,7 +12,7 @@ use borrow.Author.Tests.{ne_eqb, leb-true, lt-leb, ltb-true}
 use lib.ListN.{length}
 use Rattle.std.proofs.lemmas.Bool.{and_parts, or_right}
 use Rattle.meaning.specs.Answers.{Answer, given, refuse◌at◌when◌otherwise◌, ◌giving◌, ◌≤?◌, ◌=?◌}
-use Rattle.meaning.specs.RuleFile.{none, most_states, most_letters, class_count, as_move, class_of, is_class, is_states, is_letters, rule_of, to, no_move, tree_start_move}
+use Rattle.meaning.specs.RuleFile.{none, most_letters, class_count, as_move, class_of, is_class, is_letters, rule_of, to, no_move, tree_start_move}
 use Rattle.meaning.specs.FullReading.{opens, closes, letter, event_of, most_events, known_event, look, looked, new_level, full_turn, Turn, stays, stores, ends}
 use Rattle.meaning.specs.SkipBook.{in_still}
 use Rattle.meaning.specs.Skipping.{held, settled}
@@ -20,6 +20,7 @@ use Rattle.meaning.specs.declared.Reading.{Reading}
 use Rattle.meaning.specs.declared.Level.{Level}
 use Rattle.meaning.proofs.laws.Answered.{refuse-passes}
 use Rattle.meaning.proofs.rulefile.Accepted.{accepted-is-rule}
+use Rattle.rule.proofs.Said.{states-are, letters-are, few-states, or-none}
 use Rattle.rule.proofs.Looks.{letter-look, tree-look, class-look}
 use Rattle.rule.specs.Tables.{letter_byte, tree_byte, class_byte, table_says, move_in}
 use Rattle.rule.specs.Says.{numbers_of, RuleOf}
@@ -80,10 +81,6 @@ pub held-settled : (book : List ℕ) (r : Reading) (top : Level) → held book r
 unfolding settled
 held-settled book r top is = or_right (in_still book r.state) _ is
 
-or-none : (a : Bool) {b : Bool} → b ≡ false → (a || b) ≡ a
-or-none true e = refl
-or-none false e = e
-
 pub still-settled : (book : List ℕ) (r : Reading) (top : Level) → held book r top ≡ false
     → settled book r top ≡ in_still book r.state
 unfolding settled
@@ -92,14 +89,6 @@ still-settled book r top is_not = or-none (in_still book r.state) is_not
 -- ---- the numbers that the code holds are those of the rule
 
 module _ {file : List ℕ} {rule : Rule} (h : RuleOf file rule) where
-  pub states-are : (rule_of file).states ≡ rule.states
-  unfolding numbers_of
-  states-are = ap (λ (n : Rule). n.states) h.numbers
-
-  pub letters-are : (rule_of file).letters ≡ rule.letters
-  unfolding numbers_of
-  letters-are = ap (λ (n : Rule). n.letters) h.numbers
-
   pub tree-start-is : (rule_of file).tree_start ≡ rule.tree_start
   unfolding numbers_of
   tree-start-is = ap (λ (n : Rule). n.tree_start) h.numbers
@@ -108,28 +97,21 @@ module _ {file : List ℕ} {rule : Rule} (h : RuleOf file rule) where
   unfolding numbers_of
   initial-is = ap (λ (n : Rule). n.initial) h.numbers
 
-  pub few-states : rule.states ≤ 64
-  unfolding is_states
-  few-states =
-      let n : ℕ = (rule_of file).states in
-      let in-range = and_parts (1 ≤? n) (n ≤? most_states) (accepted-is-rule file h.accepted).states_in in
-      omega (arith, states-are, leb-true n most_states in-range.1)
-
   pub few-letters : rule.letters ≤ 256
   unfolding is_letters
   few-letters =
       let k : ℕ = (rule_of file).letters in
       let in-range = and_parts (1 ≤? k) (k ≤? most_letters) (accepted-is-rule file h.accepted).letters_in in
-      omega (arith, letters-are, leb-true k most_letters in-range.1)
+      omega (arith, letters-are h, leb-true k most_letters in-range.1)
 
   -- ---- the class of a state is the one in the file, and one of the three
 
   pub class-is : (q : ℕ) → q < rule.states → class_byte file rule.states rule.letters q ≡ class_of (rule_of file) q
-  class-is q hq = rw (← states-are, ← letters-are) (class-look file h.accepted q (omega (arith, states-are)))
+  class-is q hq = rw (← states-are h, ← letters-are h) (class-look file h.accepted q (omega (arith, states-are h)))
 
   pub class-in : (q : ℕ) → q < rule.states → class_of (rule_of file) q < class_count
   unfolding class_of is_class
-  class-in q hq = ltb-true _ _ ((accepted-is-rule file h.accepted).class_in q (omega (arith, states-are)))
+  class-in q hq = ltb-true _ _ ((accepted-is-rule file h.accepted).class_in q (omega (arith, states-are h)))
 
   -- ---- an event that is within the limit and known is taken as its turn says
 
@@ -138,14 +120,14 @@ module _ {file : List ℕ} {rule : Rule} (h : RuleOf file rule) where
   unfolding known_event
   known-turn r e turn more known =
       refuse-passes 16 r.taken _ (lt-leb most_events r.taken more)
-      ∙ refuse-passes 10 r.taken _ (lt-leb ((rule_of file).letters + 2) e (omega (arith, letters-are)))
+      ∙ refuse-passes 10 r.taken _ (lt-leb ((rule_of file).letters + 2) e (omega (arith, letters-are h)))
 
   -- ---- the book serves
 
   pub book-serves : (book : List ℕ) (r : Reading) (top : Level) → rule.states < length book → StatesIn rule r top
       → BookServes book r top
   book-serves book r top long states =
-      let few : rule.states ≤ 64 = few-states in
+      let few : rule.states ≤ 64 = few-states h in
       record {
         state_bit = omega arith;
         still_word = omega arith;
@@ -159,7 +141,7 @@ module _ {file : List ℕ} {rule : Rule} (h : RuleOf file rule) where
       ≡ look_at ceiling r LetterMoves (letter_byte file rule.letters r.state a) (λ q. stays (looked r q r.depth))
   unfolding full_turn table_says
   letter-turn room ceiling r top a hq ha =
-      rw (← letters-are, letter-look file h.accepted r.state a (omega (arith, states-are)) (omega (arith, letters-are)))
+      rw (← letters-are h, letter-look file h.accepted r.state a (omega (arith, states-are h)) (omega (arith, letters-are h)))
 
   pub open_turn : (room ceiling : ℕ) (r : Reading) (top : Level) → r.depth < room
       → full_turn (rule_of file) room ceiling r top opens
@@ -174,4 +156,4 @@ module _ {file : List ℕ} {rule : Rule} (h : RuleOf file rule) where
   unfolding full_turn table_says
   close-turn room ceiling r top inside hq hu =
       refuse-passes 7 r.taken _ (ne_eqb r.depth 0 inside)
-      ∙ rw (← letters-are, ← states-are, tree-look file h.accepted top.above r.state (omega (arith, states-are)) (omega (arith, states-are)))
+      ∙ rw (← letters-are h, ← states-are h, tree-look file h.accepted top.above r.state (omega (arith, states-are h)) (omega (arith, states-are h)))

@@ -7,7 +7,7 @@ use Rattle.meaning.specs.SkipBook.{book_of}
 use Rattle.meaning.proofs.laws.Handed.{refusal-at}
 use Rattle.meaning.proofs.skipbook.BookMade.{after-refused, after-given}
 use Rattle.book.specs.declared.tree_ends.TreeEnds.{TreeEnds}
-use Rattle.book.proofs.Walked.{states-are}
+use Rattle.rule.proofs.Said.{states-are}
 use Rattle.book.proofs.Makes.{book-short, rounds-used-up, book-made}
 use Rattle.book.proofs.make_book.Goals as goal
 

@@ -1,5 +1,5 @@
 -- Answers as Results: what a refusal says, what a step that passed or refused makes of the checks after it, and what `?` hands on.
-use mathlib.Core.Path.{◌≡◌, refl, sym, ap, ◌∙◌}
+use mathlib.Core.Path.{◌≡◌, sym, ap}
 use Prim.Native.Nat.{ℕ}
 use Rattle.std.specs.Prelude.{Result, Ok, Err}
 use Rattle.std.specs.Result.{IsErrAnd}

@@ -1,7 +1,8 @@
 use Rattle.std.proofs.Common.{not, rules}
 use Rattle.meaning.specs.RuleFile.{tree_move, rule_of}
 use Rattle.meaning.specs.SkipBook.{none_or}
-use Rattle.book.proofs.Walked.{tree_is, changes-gathered, few-states}
+use Rattle.rule.proofs.Said.{few-states}
+use Rattle.book.proofs.Walked.{tree_is, changes-gathered}
 use Rattle.book.proofs.moves.changes.Goals as goal
 
 pub states_with-requires-clause-few_states : goal.states_with-requires-clause-few_states

@@ -1,7 +1,7 @@
 use Rattle.std.proofs.Common.{get_or, rules, arith}
 use Rattle.meaning.specs.RuleFile.{rule_of}
 use Rattle.book.specs.Sets.{StandsFor, by_letters, Moves}
-use Rattle.book.proofs.Walked.{few-states, states-are}
+use Rattle.rule.proofs.Said.{few-states, states-are}
 use Rattle.book.proofs.EndSet.{letters-alone}
 use Rattle.book.proofs.moves.letter_moves.Goals as goal
 

@@ -2,7 +2,7 @@ use Rattle.std.proofs.Common.{◌≤◌, arith, rules}
 use Rattle.std.proofs.iter.Serving.{serving}
 use Rattle.book.specs.Sets.{StandsFor, WithTrees}
 use Rattle.book.proofs.Standing.{stands-or, stands-itself}
-use Rattle.book.proofs.Walked.{few-states, states-are}
+use Rattle.rule.proofs.Said.{few-states, states-are}
 use Rattle.book.proofs.moves.with_trees.Goals as goal
 
 pub table_of-requires-clause-few_states : goal.table_of-requires-clause-few_states

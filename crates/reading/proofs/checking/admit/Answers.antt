@@ -3,7 +3,7 @@ use Rattle.std.proofs.Common.{sym, ◌∙◌, arith}
 use Rattle.std.proofs.lemmas.Result.{err_from_is_err_and}
 use Rattle.meaning.specs.Calls.{refusal_says, number_of}
 use Rattle.reading.proofs.Checks.{answer-rule, answer-short, answer-unread, answer-fine}
-use Rattle.turning.proofs.Turned.{states-are, few-states}
+use Rattle.rule.proofs.Said.{states-are, few-states}
 use Rattle.reading.proofs.checking.admit.Goals as goal
 
 pub returns-in_err-checked-clause-refuses : goal.returns-in_err-checked-clause-refuses

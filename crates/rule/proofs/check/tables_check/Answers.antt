@@ -1,10 +1,10 @@
 -- The three tables at the places that the code counted, and then what may follow them.
-use Rattle.std.proofs.Common.{◌≡◌, sym, ap, ◌∙◌, Bool, true, false, List, ℕ, ◌+◌, length, arith}
+use Rattle.std.proofs.Common.{◌≡◌, sym, ap, ◌∙◌, Bool, true, false, List, ℕ, ◌+◌, length}
 use borrow.Author.Tests.{lt-ltb, le-ltb}
 use Rattle.std.specs.Prelude.{Ok}
 use Rattle.meaning.specs.Answers.{Answer, refuse◌at◌when◌otherwise◌, given, ◌and_then◌, ◌<?◌}
 use Rattle.meaning.specs.Calls.{says, number_of}
-use Rattle.meaning.specs.RuleFile.{letter_record, tree_record, class_record, file_length, class_count, header_length, numbers_length}
+use Rattle.meaning.specs.RuleFile.{letter_record, class_count, header_length, numbers_length}
 use Rattle.meaning.proofs.laws.Answered.{refuse-passes, refuse-stops}
 use Rattle.meaning.proofs.laws.Handed.{refusal-at, handed_on, and_then-ok, and_then-err}
 use Rattle.rule.specs.declared.layout.Layout.{Layout}
@@ -37,10 +37,6 @@ returns-in_err-body_check c =
     ∙ sym (tables-at c.args.file.now c.of-at.ensures
     ∙ and_then-err _ _ (moves-of _ _ _ _ moves c.in_err-body_check.ensures))
 
-pub body_check-requires-2 : goal.body_check-requires-2
-unfolding file_length class_record tree_record letter_record
-body_check-requires-2 c = omega arith
-
 pub returns-in_err-body_check-2 : goal.returns-in_err-body_check-2
 unfolding kind_code
 returns-in_err-body_check-2 c =
@@ -49,10 +45,6 @@ returns-in_err-body_check-2 c =
     ∙ sym (tables-at c.args.file.now c.of-at.ensures
     ∙ and_then-ok _ (moves-of _ _ _ _ moves c.in_ok-body_check.ensures)
     ∙ and_then-err _ _ (moves-of _ _ _ _ moves c.in_err-body_check-2.ensures))
-
-pub body_check-requires-3 : goal.body_check-requires-3
-unfolding file_length class_record tree_record letter_record
-body_check-requires-3 c = omega arith
 
 pub returns-in_err-body_check-3 : goal.returns-in_err-body_check-3
 unfolding kind_code

@@ -1,16 +1,8 @@
 -- The place is that of the class record's body and the state.
 use Rattle.std.proofs.Common.{◌≡◌, ◌∙◌, ap, ℕ, ◌+◌, arith, get_or}
-use Rattle.meaning.specs.RuleFile.{none, header_length, class_record, tree_record, letter_record, file_length}
+use Rattle.meaning.specs.RuleFile.{none, header_length, class_record}
 use Rattle.rule.specs.Tables.{class_byte}
 use Rattle.rule.proofs.tables.class_at.Goals as goal
-
-pub overflow_add-place : goal.overflow_add-place
-unfolding file_length class_record tree_record letter_record
-overflow_add-place c = omega (arith, c.of.ensures.class_place, c.of.ensures.count, c.of.ensures.small)
-
-pub overflow_add-place-2 : goal.overflow_add-place-2
-unfolding file_length class_record tree_record letter_record
-overflow_add-place-2 c = omega (arith, c.of.ensures.class_place, c.of.ensures.count, c.of.ensures.small)
 
 pub returns : goal.returns
 unfolding class_byte

@@ -1,10 +1,10 @@
 -- The lengths of the three tables and then their bytes, at the places that the code counted.
-use Rattle.std.proofs.Common.{◌≡◌, sym, ap, ◌∙◌, Bool, true, false, not, List, ℕ, ◌+◌, length, arith}
+use Rattle.std.proofs.Common.{◌≡◌, sym, ap, ◌∙◌, Bool, true, false, not, List, ℕ, ◌+◌, length}
 use borrow.Author.Tests.{eq-eqb, ne_eqb}
 use Rattle.meaning.specs.Calls.{number_of}
 use Rattle.meaning.specs.Answers.{Answer, refused, refuse◌at◌when◌otherwise◌, ◌and_then◌, ◌=?◌}
 use Rattle.meaning.specs.RuleFile as format
-use Rattle.meaning.specs.RuleFile.{table_check, letter_record, tree_record, class_record, file_length, class_count, header_length, numbers_length}
+use Rattle.meaning.specs.RuleFile.{table_check, letter_record, class_count, header_length, numbers_length}
 use Rattle.meaning.proofs.laws.Answered.{refuse-passes, refuse-stops}
 use Rattle.meaning.proofs.laws.Handed.{refusal-at, handed_on, and_then-ok, and_then-err}
 use Rattle.rule.specs.declared.layout.Layout.{Layout}
@@ -88,14 +88,6 @@ returns-in_err-table_check c =
     ∙ sym (lengths-right (parts_rule c.args.parts) c.of-at.ensures c.if-parts-at.false c.if-parts-at-2.false c.if-parts-rule.false
     ∙ and_then-err _ _ (moves-of _ _ moves c.in_err-table_check.ensures))
 
-pub overflow_add-at : goal.overflow_add-at
-unfolding file_length class_record tree_record letter_record
-overflow_add-at c = omega arith
-
-pub table_check-requires-2 : goal.table_check-requires-2
-unfolding file_length class_record tree_record letter_record
-table_check-requires-2 c = omega arith
-
 pub returns-in_err-table_check-2 : goal.returns-in_err-table_check-2
 unfolding rule_from
 returns-in_err-table_check-2 c =
@@ -104,14 +96,6 @@ returns-in_err-table_check-2 c =
     ∙ sym (lengths-right (parts_rule c.args.parts) c.of-at.ensures c.if-parts-at.false c.if-parts-at-2.false c.if-parts-rule.false
     ∙ and_then-ok _ (moves-of _ _ moves c.in_ok-table_check.ensures)
     ∙ and_then-err _ _ (moves-of _ _ moves c.in_err-table_check-2.ensures))
-
-pub overflow_add-at-2 : goal.overflow_add-at-2
-unfolding file_length class_record tree_record letter_record
-overflow_add-at-2 c = omega arith
-
-pub table_check-requires-3 : goal.table_check-requires-3
-unfolding file_length class_record tree_record letter_record
-table_check-requires-3 c = omega arith
 
 pub returns : goal.returns
 unfolding rule_from

@@ -7,7 +7,8 @@ use Rattle.meaning.specs.FullReading.{most_events, known_event}
 use Rattle.meaning.specs.Skipping.{skip_turn, skip_event}
 use Rattle.meaning.proofs.laws.Answered.{refuse-stops, refuse-passes, if-true, if-false}
 use Rattle.turning.specs.Turns.{turn_says}
-use Rattle.turning.proofs.Turned.{known-turn, letters-are, few-letters}
+use Rattle.rule.proofs.Said.{letters-are}
+use Rattle.turning.proofs.Turned.{known-turn, few-letters}
 use Rattle.turning.proofs.Standing.skip_event.Goals as goal
 
 pub overflow_add-known : goal.overflow_add-known

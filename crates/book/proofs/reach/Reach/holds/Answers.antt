@@ -2,7 +2,7 @@ use Rattle.std.proofs.Common.{◌≡◌, get_or, arith, rules}
 use Rattle.meaning.specs.RuleFile.{rule_of}
 use Rattle.meaning.specs.SkipBook.{hold_marks, word_of}
 use Rattle.book.specs.Sets.{Holds}
-use Rattle.book.proofs.Walked.{states-are}
+use Rattle.rule.proofs.Said.{states-are}
 use Rattle.book.proofs.reach.Reach.holds.Goals as goal
 
 pub returns-clause-holds : goal.returns-clause-holds

@@ -1,7 +1,7 @@
 use Rattle.std.proofs.Common.{◌≡◌, get_or, arith, rules}
 use Rattle.meaning.specs.RuleFile.{rule_of}
 use Rattle.book.specs.Sets.{Reached, reached_word}
-use Rattle.book.proofs.Walked.{states-are}
+use Rattle.rule.proofs.Said.{states-are}
 use Rattle.book.proofs.reach.Reach.of.Goals as goal
 
 pub invariant_of-result : goal.invariant_of-result

@@ -1,6 +1,6 @@
 use Rattle.std.proofs.Common.{◌≡◌, List, ◌≤◌, ◌+◌, ◌∷◌, ◌++◌, ℕ, length, take, drop, sym, ap, ◌∙◌, arith, rules}
 use Rattle.meaning.specs.RuleFile.{rule_of}
-use Rattle.book.proofs.Walked.{states-are}
+use Rattle.rule.proofs.Said.{states-are}
 use Rattle.book.proofs.BookWords.{book-written}
 use Rattle.book.proofs.reach.Reach.write_book.Goals as goal
 

@@ -3,7 +3,8 @@ use Rattle.std.proofs.Common.{◌≡◌, arith, add-one}
 use Rattle.meaning.specs.RuleFile.{rule_of}
 use Rattle.meaning.proofs.rulefile.Accepted.{accepted-is-rule}
 use Rattle.book.specs.Sets.{EndsFound}
-use Rattle.book.proofs.Walked.{few-states, states-are, start-goes}
+use Rattle.rule.proofs.Said.{few-states, states-are}
+use Rattle.book.proofs.Walked.{start-goes}
 use Rattle.book.proofs.EndSet.{first-end-word, first-states, first_found, next-end-word, added-states, next-found, rest-found}
 use Rattle.book.proofs.tree_ends.TreeEnds.of.Goals.{else-loop-round-test, then-loop-round-test+then-next-set}
 use Rattle.book.proofs.tree_ends.TreeEnds.of.Goals as goal
