@@ -8,7 +8,7 @@ use Rattle.meaning.specs.Answers.{given, refused, refuse◌at◌when◌otherwise
 use Rattle.meaning.specs.RuleFile.{Rule, header_length, number2, number4, check_rule}
 use Rattle.meaning.specs.CheckProgram as program
 use Rattle.meaning.specs.CheckProgram.{events_kind, events_header, events_place, front_check}
-use Rattle.meaning.proofs.laws.Answered.{refuse-passes, refuse-stops, giving-passes, giving-stops, if-true, if-false}
+use Rattle.meaning.proofs.laws.Answered.{refuse-passes, refuse-stops, giving-passes, giving-stops, if-true}
 use Rattle.meaning.specs.Calls.{refusal_says}
 use Rattle.meaning.proofs.stores.OneAnswer.{given-says, refusal-says}
 use Rattle.std.specs.Prelude.{Result, Ok, Err}
@@ -57,11 +57,6 @@ missing input e = rw e (giving-stops _ refl)
 pub starts : (input : List ℕ) {place : ℕ} → check_rule input ≡ refused 5 place → front_check input ≡ header_answer input place
 unfolding front_check events_place header_answer
 starts input {place} e = rw e (giving-passes _ (if-true (given place) (refused 5 place) refl))
-
-pub bad-rule : (input : List ℕ) {number place : ℕ} → check_rule input ≡ refused number place → (number ≡ 5 → ⊥)
-    → front_check input ≡ refused number place
-unfolding front_check events_place
-bad-rule input {number} e other = rw e (giving-stops _ (if-false _ _ (ne_eqb number 5 other)))
 
 -- ---- two answers that say the same are the same
 

@@ -12,7 +12,7 @@ use Rattle.meaning.specs.RuleFile.{number2}
 use Rattle.meaning.specs.CheckProgram.{events_in}
 use Rattle.input.specs.Decoding.{event_count, decoded}
 
-twice-suc : (i : ℕ) → suc i * 2 ≡ suc (suc (i * 2))
+pub twice-suc : (i : ℕ) → suc i * 2 ≡ suc (suc (i * 2))
 twice-suc i = omega arith
 
 pair-next : (a b : ℕ) (bytes : List ℕ) (i : ℕ) → number2 (a ∷ b ∷ bytes) (suc i * 2) ≡ number2 bytes (i * 2)

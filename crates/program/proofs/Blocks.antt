@@ -9,16 +9,13 @@ use Rattle.std.proofs.lemmas.Bool.{both_ways}
 use Rattle.std.proofs.Common.{Option, None, Some, IsSome, IfSome, IsSomeAnd}
 use Rattle.meaning.specs.CheckProgram.{events_in, program_fed}
 use Rattle.input.specs.Decoding.{event_count, decoded}
-use Rattle.input.proofs.Pairs.{count-all, events-length}
+use Rattle.input.proofs.Pairs.{twice-suc, count-all, events-length}
 use Rattle.program.specs.declared.body.Body.{Body}
 use Rattle.program.specs.Passes.{pass_says, fed_on}
 use Rattle.program.specs.Bodies.{block_length, zero_book, Took, Carried}
 use Rattle.program.proofs.Feeds.{fed-more}
 
 -- ---- the events of bytes
-
-twice-suc : (i : ℕ) → suc i * 2 ≡ suc (suc (i * 2))
-twice-suc i = omega arith
 
 -- a byte that is left over is no event
 events-take : (n : ℕ) (bytes : List ℕ) → length bytes ≤ n * 2 + 1 → events_in (take (n * 2) bytes) ≡ events_in bytes

@@ -6,9 +6,6 @@ use Rattle.input.proofs.decode.Goals as goal
 pub loop-i-init : goal.loop-i-init
 loop-i-init c = decode-none c.args.bytes.now (take c.min-count.result c.args.events.now)
 
-pub number2-requires : goal.number2-requires
-number2-requires c = omega (arith, length-take {A = ℕ})
-
 pub loop-i-preserved : goal.loop-i-preserved
 loop-i-preserved c =
     rw (c.loop-i.invariant, c.number2.ensures)

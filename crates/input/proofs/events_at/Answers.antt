@@ -2,9 +2,10 @@
 use Rattle.std.proofs.Common.{sym, ap, ◌∙◌}
 use Rattle.meaning.specs.Answers.{refused}
 use Rattle.meaning.specs.Calls.{refusal_says, number_of}
+use Rattle.meaning.proofs.program.Fifth.{other-refused}
 use Rattle.rule.proofs.Said.{fine-accepted, refused-check}
 use Rattle.input.specs.Says.{front_says}
-use Rattle.input.proofs.Headers.{missing, starts, bad-rule}
+use Rattle.input.proofs.Headers.{missing, starts}
 use Rattle.input.proofs.events_at.Goals as goal
 
 pub returns-in-Ok : goal.returns-in-Ok
@@ -24,4 +25,4 @@ pub returns-in-Err-2 : goal.returns-in-Err-2
 unfolding front_says refusal_says number_of
 returns-in-Err-2 c =
     let check = refused-check c.args.front.now c.in-Err.refusal c.in-Err.ensures in
-    sym (bad-rule c.args.front.now check (λ e. c.if-refusal-number.false (e ∙ sym c.number.ensures)))
+    sym (other-refused c.args.front.now check (λ e. c.if-refusal-number.false (e ∙ sym c.number.ensures)))
