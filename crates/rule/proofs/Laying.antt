@@ -6,7 +6,7 @@ use Prim.Native.Nat.{ℕ, ◌+◌, ◌-◌, ◌≤◌}
 use native.Mathlib.Nat.{zero-add}
 use native.Mathlib.Omega.{arith}
 use lib.ListN.{length, take, drop, length-append, length-take, length-drop, drop_of_length-le}
-use lib.Seq.{sets, sets-eq, drop-drop, take_at, drop_at, take_all}
+use lib.Seq.{sets, sets-eq, drop-drop, take_at, drop_at, take-length, take_all, paste}
 use borrow.Rule.Slice.PartMut.{put_mid, mid_of, post_of}
 use Rattle.meaning.specs.RuleFile.{bytes2, bytes4, record_bytes}
 use Rattle.rule.specs.Laid.{laid, header_bytes}
@@ -71,3 +71,8 @@ laid-record place kind body output {headed} laid_down copied h =
     ap (put_mid start (length headed - start) headed) copied
     ∙ laid-lent start body headed (omega arith)
     ∙ laid_next place start (header_bytes kind (length body)) body output laid_down refl h
+
+-- a whole body, copied to the front
+pub laid-copied : (body output : List ℕ) → paste output 0 body (length body) ≡ laid 0 body output
+unfolding laid
+laid-copied body output = rw take-length

@@ -1,6 +1,6 @@
 // The single checks of a rule file: one pass over its bytes, the tables lent as parts of it.
 ghost use Rattle.std.specs.Prelude.{◌≡◌, ◌&&◌, ◌+◌, ◌<◌, ◌^◌, length};
-ghost use Rattle.meaning.specs.Answers.{◌≤?◌};
+ghost use Rattle.meaning.specs.Answers.{refused, ◌≤?◌};
 ghost use Rattle.meaning.specs.Calls.{says};
 ghost use Rattle.meaning.specs.RuleFile.{number2, number4, numbers_check, record_check, table_check};
 ghost use Rattle.rule.specs.Checks.{in_range, bare_rule, kind_code, body_check, tables_check};
@@ -11,6 +11,14 @@ use crate::layout::{LETTER_RECORD, Layout};
 use crate::range::Range;
 use crate::tables::HEADER;
 use meaning::{Reason, Refusal};
+
+// A refusal with any number. Where the number is a reason's, it is `Reason::at`.
+#[tactic(auto, unfolding(meaning::specs::Calls::says, meaning::specs::Calls::refusal_says))]
+pub fn refuse(number: u8, place: usize) -> Result<(), Refusal>
+    ensures { says result ≡ refused number place }
+{
+    Err(Refusal { number, place })
+}
 
 // The number that two bytes stand for.
 #[tactic(auto, unfolding(meaning::specs::RuleFile::number2))]

@@ -47,12 +47,15 @@ fn record(output: &mut [u8], place: usize, kind: Kind, body: &[u8])
     copy_body(&mut output[start..], body);
 }
 
-// A body, copied to the front of what is left of the output.
+// A body, copied to the front of what is left of the output. By a loop, since `copy_from_slice` would ask `memmove` of whoever links
+// the archive.
 fn copy_body(output: &mut [u8], body: &[u8])
     requires { length body.now ≤ length output.old }
     ensures { output.new ≡ laid 0 body.now output.old }
 {
-    output[..body.len()].copy_from_slice(body);
+    for (i, &byte) in body.iter().enumerate() {
+        output[i] = byte;
+    }
 }
 
 // The first record.

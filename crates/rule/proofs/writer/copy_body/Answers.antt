@@ -1,10 +1,11 @@
--- The front of the output is the body, and the rest stays.
-use Rattle.std.proofs.Common.{sym, ap, ◌∙◌, List, ℕ, ◌++◌, length, drop}
-use Rattle.rule.proofs.Laying.{laid-front}
+-- At the end the whole body is copied.
+use Rattle.std.proofs.Common.{◌≡◌, ap, ◌∙◌, length, arith}
+use Rattle.std.proofs.Math.Seq.{paste}
+use Rattle.rule.proofs.Laying.{laid-copied}
 use Rattle.rule.proofs.writer.copy_body.Goals as goal
 
 pub returns : goal.returns
 returns c =
-    let body = c.args.body.now in
-    let output = c.args.output.now in
-    ap (λ (front : List ℕ). front ++ drop (length body) output) c.copy_from_slice.ensures.after ∙ sym (laid-front body output)
+    let a = c.args in
+    let all : c.loop-i.i ≡ length a.body.now = omega arith in
+    c.loop-i.invariant.0 ∙ ap (paste a.output.now 0 a.body.now) all ∙ laid-copied a.body.now a.output.now
