@@ -1,6 +1,5 @@
-// The level store: a lent slice of records, one for each open level. Two functions alone read and store a record at a place
-// of it, and every other function goes through them, but for one that goes over the records without an index
-// (`reading::checking::stored_in`).
+// The level store: a lent slice of records, one for each open level. It is indexed in two functions only, and every
+// other function reads and writes it through them.
 #![tactic(auto)]
 
 ghost use Rattle.std.specs.Prelude.{◌≡◌, length, get_or, set};

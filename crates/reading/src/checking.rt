@@ -9,16 +9,16 @@ ghost use Rattle.turning.specs.Readings.{BookServes};
 ghost use Rattle.reading.specs.Checks.{aboves_in, reading_answer};
 
 use crate::store::top_of;
-use levels::room;
+use levels::{level_at, room};
 use meaning::{Level, Reading, Reason, Refusal};
 use rule::CheckedRule;
 use turning::settling::Settled;
 
-// Whether the stored states below the depth are all below n. Whoever asks has seen that the store is that deep.
-fn stored_in(levels: &[Level], depth: usize, states: u8) -> bool
-    ensures { depth ≤ length levels.now → result ≡ aboves_in states depth levels.now }
+// Whether the stored states below the depth are all below n.
+pub fn stored_in(levels: &[Level], depth: usize, states: u8) -> bool
+    ensures { result ≡ aboves_in states depth levels.now }
 {
-    levels.iter().take(depth).all(|level| level.above < states)
+    (0..depth).all(|place| level_at(levels, place).above < states)
 }
 
 // Whether the skip depth is above zero on a level that is not settled.

@@ -17,8 +17,6 @@ use checking::admit;
 use ending::end_of;
 use feeding::{fed_of, feed_loop};
 use meaning::{Fed, Judgement, Level, Opening, Reading, Refusal};
-use opening::open_rule;
-use rule::CheckedRule;
 use store::top_of;
 
 // The largest ceiling.
@@ -37,8 +35,8 @@ pub fn open(file: &[u8], book: &mut [u64]) -> Result<Opening, Refusal>
     ensures answer { says result ≡ open_call file.now book.old }
     ensures book_after { book.new ≡ opened_book file.now book.old }
 {
-    let rule = CheckedRule::of_file(file)?;
-    open_rule(rule, book)
+    let opened = opening::open(file, book)?;
+    Ok(opened.gave)
 }
 
 // The reading that opening gave, or five zeros where it refused.
@@ -126,9 +124,16 @@ pub fn read_document(
 ) -> Result<Judgement, Refusal>
     ensures { ReadIs (whole_document file.now book.old levels.old events.now) result book.new levels.new }
 {
-    let rule = CheckedRule::of_file(file)?;
-    let first = open_rule(rule, &mut *book)?.reading;
-    let last = feed_loop(rule, &*book, LARGEST_CEILING, first, &mut *levels, events);
+    let opened = opening::open(file, &mut *book)?;
+    let first = opened.gave.reading;
+    let last = feed_loop(
+        opened.rule,
+        &*book,
+        LARGEST_CEILING,
+        first,
+        &mut *levels,
+        events,
+    );
     last.end()?;
-    end_of(rule, last.reading, top_of(last.reading, &*levels))
+    end_of(opened.rule, last.reading, top_of(last.reading, &*levels))
 }

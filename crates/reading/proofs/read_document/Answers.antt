@@ -1,54 +1,42 @@
 -- Each step that refuses ends the call with its refusal, and where none does, the end is the definition's.
 use Rattle.std.proofs.Common.{sym, ◌∙◌}
 use Rattle.std.proofs.lemmas.Result.{err_from_is_err_and}
-use Rattle.meaning.proofs.laws.Handed.{was-given, was-refused}
-use Rattle.reading.proofs.Checks.{unchecked-opens, unchecked-stays}
 use Rattle.reading.proofs.WholeRead.{document-refused, opened-feeds, document-stops, document-state, document-ends}
 use Rattle.reading.proofs.read_document.Goals as goal
 
-pub returns-in_err-rule : goal.returns-in_err-rule
-returns-in_err-rule c =
-    let file = c.args.file.now in
-    let book = c.args.book.now in
-    let stopped = c.in_err-rule.ensures.refuses in
+pub returns-in_err-opened : goal.returns-in_err-opened
+returns-in_err-opened c =
     let p = err_from_is_err_and c.from_residual.result c.from_residual.ensures.1 in
-    rw (p.1, p.2)
-    (rw (← unchecked-stays file book _ stopped) at
-    (document-refused file book c.args.levels.now c.args.events.now _ (unchecked-opens file book _ stopped)))
-
-pub returns-in_err-first : goal.returns-in_err-first
-returns-in_err-first c =
-    let file = c.in_ok-rule.rule.file.now in
-    let p = err_from_is_err_and c.from_residual-in_err-first.result c.from_residual-in_err-first.ensures.1 in
-    rw (p.1, p.2, ← c.in_ok-rule.ensures.accepts.0, c.open_rule.ensures.book_after)
-    (document-refused file c.args.book.now c.args.levels.now c.args.events.now _ (was-refused _ c.in_err-first.ensures.answer))
+    rw (p.1, p.2, c.in_err-opened.ensures.book_after)
+    (document-refused c.args.file.now c.args.book.now c.args.levels.now c.args.events.now _ c.in_err-opened.ensures.refuses)
 
 pub feed_loop-last-requires : goal.feed_loop-last-requires
 feed_loop-last-requires c =
-    let file = c.in_ok-rule.rule.file.now in
-    rw c.open_rule.ensures.book_after
-    (opened-feeds file c.args.book.now c.args.levels.now c.args.events.now (was-given c.in_ok-first.ensures.answer) c.in_ok-rule.rule.accepted)
+    let opens = c.in_ok-opened.ensures.opens in
+    rw (opens.0, c.open.ensures.book_after)
+    (opened-feeds c.args.file.now c.args.book.now c.args.levels.now c.args.events.now opens.1 (rw opens.0 at c.in_ok-opened.opened.rule.accepted))
 
 pub returns-in_err-end : goal.returns-in_err-end
 returns-in_err-end c =
-    let file = c.in_ok-rule.rule.file.now in
-    let gone = rw c.open_rule.ensures.book_after at c.feed_loop-last.ensures in
+    let opens = c.in_ok-opened.ensures.opens in
+    let ruled = rw opens.0 at c.in_ok-opened.opened.rule.accepted in
+    let gone = rw (opens.0, c.open.ensures.book_after) at c.feed_loop-last.ensures in
     let p = err_from_is_err_and c.from_residual-in_err-end.result c.from_residual-in_err-end.ensures.1 in
-    rw (p.1, p.2, ← c.in_ok-rule.ensures.accepts.0, c.open_rule.ensures.book_after)
-    (document-stops file c.args.book.now c.args.levels.now c.args.events.now (was-given c.in_ok-first.ensures.answer) c.in_ok-rule.rule.accepted
-    gone _ (sym c.end.ensures ∙ c.in_err-end.was))
+    rw (p.1, p.2, c.open.ensures.book_after)
+    (document-stops c.args.file.now c.args.book.now c.args.levels.now c.args.events.now opens.1 ruled gone _ (sym c.end.ensures ∙ c.in_err-end.was))
 
 pub end_of-requires : goal.end_of-requires
 end_of-requires c =
-    let file = c.in_ok-rule.rule.file.now in
-    let gone = rw c.open_rule.ensures.book_after at c.feed_loop-last.ensures in
-    document-state file c.args.book.now c.args.levels.now c.args.events.now (was-given c.in_ok-first.ensures.answer) c.in_ok-rule.rule.accepted
-    gone (sym c.end.ensures ∙ c.in_ok-end.was)
+    let opens = c.in_ok-opened.ensures.opens in
+    let ruled = rw opens.0 at c.in_ok-opened.opened.rule.accepted in
+    let gone = rw (opens.0, c.open.ensures.book_after) at c.feed_loop-last.ensures in
+    document-state c.args.file.now c.args.book.now c.args.levels.now c.args.events.now opens.1 ruled gone (sym c.end.ensures ∙ c.in_ok-end.was)
 
 pub returns : goal.returns
 returns c =
-    let file = c.in_ok-rule.rule.file.now in
-    let gone = rw c.open_rule.ensures.book_after at c.feed_loop-last.ensures in
-    rw (← c.in_ok-rule.ensures.accepts.0, c.open_rule.ensures.book_after)
-    (document-ends file c.args.book.now c.args.levels.now c.args.events.now (was-given c.in_ok-first.ensures.answer) c.in_ok-rule.rule.accepted
-    gone (sym c.end.ensures ∙ c.in_ok-end.was) (rw c.top_of.ensures at c.end_of.ensures))
+    let opens = c.in_ok-opened.ensures.opens in
+    let ruled = rw opens.0 at c.in_ok-opened.opened.rule.accepted in
+    let gone = rw (opens.0, c.open.ensures.book_after) at c.feed_loop-last.ensures in
+    let ends = rw (opens.0, c.top_of.ensures) at c.end_of.ensures in
+    rw c.open.ensures.book_after
+    (document-ends c.args.file.now c.args.book.now c.args.levels.now c.args.events.now opens.1 ruled gone (sym c.end.ensures ∙ c.in_ok-end.was) ends)

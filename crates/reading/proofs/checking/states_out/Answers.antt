@@ -40,7 +40,4 @@ returns-else-room-depth c =
       | else-states-reading w ↦ state-in _ _ _ w.if-states-reading.false (w.value-is ∙ ap (λ (room : ℕ). room <? r.depth) w.room.ensures)
     ]
     in
-    let deep : r.depth ≤ length store
-    = ltb-false (length store) r.depth (or_parts (not (is_state c.args.states r.state)) (depth_past_store r store) (sym first ∙ c.if-room-depth.false)).1
-    in
-    decides-last _ _ (not (aboves_in c.args.states r.depth store)) first c.if-room-depth.false (ap not (c.stored_in.ensures deep))
+    decides-last _ _ (not (aboves_in c.args.states r.depth store)) first c.if-room-depth.false (ap not c.stored_in.ensures)
