@@ -3,11 +3,11 @@ use mathlib.Core.Path.{◌≡◌, refl, sym, ap, ◌∙◌}
 use mathlib.Core.List.{List, [], ◌∷◌, ◌++◌, append_assoc}
 use Prim.Native.Nat.{ℕ, zero, suc, min, ◌+◌, ◌-◌, ◌≤◌}
 use native.Mathlib.Omega.{arith}
-use lib.ListN.{length, take}
+use lib.ListN.{length, take, drop, replicate, length-drop}
 use lib.Seq.{take_all, take-append-add, length-take-le}
-use borrow.Rule.Slice.PartMut.{put_mid}
-use Rattle.std.proofs.lemmas.List.{take_min}
-use Rattle.std.proofs.lemmas.Slice.{take-put_mid}
+use borrow.Rule.Slice.PartMut.{put_mid, same_len_mid}
+use Rattle.std.proofs.lemmas.List.{take_min, drop-drop, drop-replicate}
+use Rattle.std.proofs.lemmas.Slice.{take-put_mid, drop-put_mid}
 use Rattle.program.specs.Texts.{text_room, laid, Lays}
 
 take-front : (n : ℕ) (there more : List ℕ) → take n (take n there ++ more) ≡ take n (there ++ more)
@@ -38,6 +38,24 @@ laid-in_room bytes more part count n room within few is_part =
     take-put_mid count (count + n - count) bytes part (count + n) all (omega (arith, room))
     ∙ (ap (λ l. take count bytes ++ l) (is_part ∙ (ap (λ m. take m more) few ∙ take_min (text_room - count) more))
     ∙ (sym (take-append-add (take count bytes) more (text_room - count)) ∙ ap (λ m. take m (take count bytes ++ more)) left))
+
+-- the room keeps its length
+pub room-in_room : (bytes part : List ℕ) (count n : ℕ) → length bytes ≡ text_room → count + n ≤ text_room → length part ≡ n
+    → length (put_mid count (count + n - count) bytes part) ≡ text_room
+room-in_room bytes part count n room within is_part =
+    let there : length (take (count + n - count) (drop count bytes)) ≡ count + n - count
+    = length-take-le (count + n - count) (drop count bytes) (omega (arith, length-drop count bytes, room, within)) in
+    same_len_mid count (count + n - count) bytes part (omega (arith, is_part, there)) ∙ room
+
+-- what stands past the bytes that are laid stays
+pub past-in_room : (bytes part : List ℕ) (count n : ℕ) → length bytes ≡ text_room → count + n ≤ text_room
+    → length part ≡ n → drop count bytes ≡ replicate (text_room - count) 0
+    → drop (count + n) (put_mid count (count + n - count) bytes part) ≡ replicate (text_room - (count + n)) 0
+past-in_room bytes part count n room within is_part zeros =
+    let whole : length part ≡ count + n - count = omega (arith, is_part) in
+    let left : text_room - count - n ≡ text_room - (count + n) = omega arith in
+    drop-put_mid count (count + n - count) bytes part (count + n) (omega arith) (omega (arith, room, within)) whole
+    ∙ (sym (drop-drop n count bytes) ∙ (ap (drop n) zeros ∙ (drop-replicate n (text_room - count) 0 ∙ ap (λ m. replicate m 0) left)))
 
 -- ---- texts one after the other
 

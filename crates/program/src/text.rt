@@ -8,24 +8,33 @@ use std::marker::Model;
 // The bytes that a text has room for.
 const ROOM: usize = 192;
 
-// The bytes so far are the first of the room. It is no `ArrayVec`, whose writes ask for room or answer a `Result`: here what finds
-// no room is left out, and no line asks for any.
-#[derive(Drop)]
+// The bytes so far are the first of the room, and those past them are zeros, so that two texts of the same bytes are the same. It is
+// no `ArrayVec`, whose writes ask for room or answer a `Result`: here what finds no room is left out, and no line asks for any.
+#[derive(Clone, Copy)]
 pub struct Text {
     bytes: [u8; ROOM],
     count: usize,
 }
 
-// Clauses see the bytes so far.
+// Clauses see the bytes so far. A `Copy` takes the fields back from them.
 impl Model for Text {
-    ghost use Rattle.std.specs.Prelude.{ℕ, ◌≤◌, List, take};
+    ghost use Rattle.std.specs.Prelude.{ℕ, ◌≡◌, ◌≤◌, ◌-◌, List, ◌++◌, length, take, drop, replicate};
+    ghost use Rattle.std.proofs.Common.{arith, ap, sym, ◌∙◌, take-append-drop, length-take-le};
     ghost use Rattle.program.specs.Texts.{text_room};
 
     ghost Value = { List ℕ };
 
     ghost view = { λ t. take t.count t.bytes };
 
-    ghost invariant = { λ t. t.count ≤ text_room };
+    ghost invariant = { λ t. (t.count ≤ text_room) × (length t.bytes ≡ text_room) × (drop t.count t.bytes ≡ replicate (text_room - t.count) 0) };
+
+    ghost inverse = { λ said. record { bytes = said ++ replicate (text_room - length said) 0; count = length said } };
+
+    ghost inverse_ok = { λ t h i. record {
+      bytes = (ap (λ n. take t.count t.bytes ++ replicate (text_room - n) 0) (length-take-le t.count t.bytes (omega (arith, h.0, h.1)))
+          ∙ (ap (λ l. take t.count t.bytes ++ l) (sym h.2) ∙ take-append-drop t.count t.bytes)) i;
+      count = length-take-le t.count t.bytes (omega (arith, h.0, h.1)) i;
+    } };
 }
 
 impl Text {
