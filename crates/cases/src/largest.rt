@@ -1,10 +1,12 @@
 // The largest rules: 64 states and 256 letters, written, read back and given their books. In the one each state's letter moves
 // lead to the next state, so that Reach takes every round there is before nothing more is added. In the other a tree move leads to
 // the next state, with the state itself as lower state: so does the set of the tree start, and the last move waits for all of it.
+ghost use Rattle.std.specs.Prelude.{ℕ};
+
 use crate::lines;
 use rule::Rule;
 use rule::writer::{self, Parts};
-use std::{array, io};
+use std::io;
 
 const STATES: usize = Rule::MOST_STATES as usize;
 
@@ -39,6 +41,15 @@ fn next_of(state: usize, last: u8) -> u8 {
     }
 }
 
+// A table filled in place, by what stands at each place of it: made apart and then moved, the larger one would be on the stack twice.
+fn fill<F: Fn(usize) -> u8>(moves: &mut [u8], move_at: F)
+    requires { (place : ℕ) → F.pre move_at place }
+{
+    for (place, to) in moves.iter_mut().enumerate() {
+        *to = move_at(place);
+    }
+}
+
 fn book_of(rt: &impl Print, name: &str, file: &[u8]) -> io::Result<()> {
     let mut book = [0; 65];
     match reading::open(file, &mut book) {
@@ -54,7 +65,8 @@ fn book_of(rt: &impl Print, name: &str, file: &[u8]) -> io::Result<()> {
 
 pub fn letters(rt: &impl Print) -> io::Result<()> {
     // a row for each state
-    let moves: [u8; LETTER_MOVES] = array::from_fn(|place| next_of(place / LETTERS, 63));
+    let mut moves = [0; LETTER_MOVES];
+    fill(&mut moves, |place| next_of(place / LETTERS, 63));
     let parts = Parts {
         letter_moves: &moves,
         ..NO_MOVE
@@ -67,7 +79,8 @@ pub fn letters(rt: &impl Print) -> io::Result<()> {
 
 pub fn trees(rt: &impl Print) -> io::Result<()> {
     // only a state with itself as lower state has a move, and the last one goes back
-    let moves: [u8; TREE_MOVES] = array::from_fn(|place| {
+    let mut moves = [0; TREE_MOVES];
+    fill(&mut moves, |place| {
         let upper = place / STATES;
         let lower = place % STATES;
         if lower == upper {

@@ -62,10 +62,8 @@ pub fn opened(
     book: [u64; 4],
 ) -> io::Result<()> {
     let [first, second, third, fourth] = book;
-    println!(rt;
-        "{name} {} book {first} {second} {third} {fourth}",
-        Answer(opened.map(Given::Ready))
-    )
+    print!(rt; "{name} {}", Answer(opened.map(Given::Ready)))?;
+    println!(rt; " book {first} {second} {third} {fourth}")
 }
 
 // The end of a reading, after so many looks.
