@@ -1,8 +1,9 @@
 // The check program's input: where the record of events stands, and the events in its bytes.
 #![tactic(auto)]
 
-ghost use Rattle.std.specs.Prelude.{◌≡◌, ◌≤◌, length};
+ghost use Rattle.std.specs.Prelude.{◌≡◌, ◌+◌, ◌<◌, ◌≤◌, length};
 ghost use Rattle.meaning.specs.CheckProgram.{front_check};
+ghost use Rattle.meaning.specs.RuleFile.{number2};
 ghost use Rattle.input.specs.Decoding.{event_count, decoded};
 ghost use Rattle.input.specs.Says.{front_says, header_answer};
 
@@ -50,6 +51,14 @@ pub fn events_at(front: &[u8]) -> Result<EventsAt, Refusal>
     }
 }
 
+// The event that stands at a place.
+fn event_at(bytes: &[u8], place: usize) -> u16
+    requires { place + 1 < length bytes.now }
+    ensures { result ≡ number2 bytes.now place }
+{
+    check::number2(bytes, place)
+}
+
 // The events that bytes hold, two bytes each, into the front of a lent slice, as many as find a slot; the rest stays. It answers
 // their count.
 pub fn decode(bytes: &[u8], events: &mut [u16]) -> usize
@@ -60,7 +69,7 @@ pub fn decode(bytes: &[u8], events: &mut [u16]) -> usize
     let count = (bytes.len() / 2).min(events.len());
     // By the index: after a `zip` of `iter_mut` nothing is known of the slots, and number2 reads both bytes, here as in the header.
     for (i, event) in events[..count].iter_mut().enumerate() {
-        *event = check::number2(bytes, i * 2);
+        *event = event_at(bytes, i * 2);
     }
     count
 }

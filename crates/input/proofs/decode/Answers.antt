@@ -8,7 +8,7 @@ loop-i-init c = decode-none c.args.bytes.now (take c.min-count.result c.args.eve
 
 pub loop-i-preserved : goal.loop-i-preserved
 loop-i-preserved c =
-    rw (c.loop-i.invariant, c.number2.ensures)
+    rw (c.loop-i.invariant, c.event_at.ensures)
     (decode-more c.loop-i.i c.args.bytes.now (take c.min-count.result c.args.events.now) (omega (arith, length-take {A = ℕ})) (omega arith))
 
 pub returns-clause-events : goal.returns-clause-events
