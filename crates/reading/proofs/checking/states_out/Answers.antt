@@ -1,7 +1,6 @@
 -- The first condition that holds is the definition's, and each that does not is passed.
-use Rattle.std.proofs.Common.{◌≡◌, sym, ap, ◌∙◌, not, Bool, ◌||◌, ℕ, ◌<◌, ◌≤◌, length}
-use borrow.Author.Tests.{lt-ltb, le-ltb, le-leb, ltb-false}
-use Rattle.std.proofs.lemmas.Bool.{or_parts}
+use Rattle.std.proofs.Common.{◌≡◌, ap, ◌∙◌, not, Bool, ◌||◌, ℕ, ◌<◌, ◌≤◌}
+use borrow.Author.Tests.{lt-ltb, le-ltb, le-leb}
 use Rattle.meaning.specs.Answers.{◌<?◌, ◌≤?◌}
 use Rattle.meaning.specs.RuleFile.{is_state}
 use Rattle.meaning.specs.Calls.{depth_past_store}
