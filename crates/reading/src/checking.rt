@@ -14,7 +14,7 @@ use meaning::{Level, Reading, Reason, Refusal};
 use rule::CheckedRule;
 use turning::settling::Settled;
 
-// Whether the stored states below the depth are all below n.
+// Whether the stored states below the depth are all below n. By their places: the answer is of every depth, also past the store.
 pub fn stored_in(levels: &[Level], depth: usize, states: u8) -> bool
     ensures { result ≡ aboves_in states depth levels.now }
 {

@@ -6,7 +6,7 @@ use mathlib.Core.Bool.{Bool, true, false}
 use mathlib.Core.List.{List}
 use Prim.Native.Nat.{ℕ, ◌+◌, ◌*◌, ◌<◌}
 use native.Mathlib.Omega.{arith}
-use lib.ListN.{get_or}
+use lib.ListN.{length, get_or}
 use lib.Seq.{get_or-take, get_or-drop}
 use Rattle.std.proofs.lemmas.List.{get_or_default}
 use Rattle.std.proofs.lemmas.Nat.{mul-add-lt}
@@ -16,6 +16,10 @@ use Rattle.meaning.proofs.rulefile.Accepted.{accepted-is-rule, letter-part, tree
 use Rattle.rule.specs.declared.tables.Table.{Table}
 use Rattle.std.specs.Prelude.{Ok, Err}
 use Rattle.rule.specs.Tables.{letter_byte, tree_byte, class_byte, move_says, move_in}
+
+-- inside a list the default does not matter
+pub get_or-inside : {A : Type 0} (l : List A) (i : ℕ) (d e : A) → i < length l → get_or l i d ≡ get_or l i e
+get_or-inside l i d e h = get_or_default l i d e h
 
 part_at : (file : List ℕ) (place size i d : ℕ) → i < size → get_or (part file place size) i d ≡ get_or file (place + i) d
 unfolding part
@@ -50,6 +54,6 @@ module _ (file : List ℕ) {R : Rule} (accepted : check_rule file ≡ given R) w
   pub class-look : (q : ℕ) → q < R.states → class_byte file R.states R.letters q ≡ class_of R q
   unfolding class_byte class_of
   class-look q hq =
-      sym (get_or_default R.classes q 0 none (omega (arith, (accepted-is-rule file accepted).class_length))
+      sym (get_or-inside R.classes q 0 none (omega (arith, (accepted-is-rule file accepted).class_length))
       ∙ ap (λ (l : List ℕ). get_or l q none) (class-part file accepted)
       ∙ part_at file _ _ _ none hq)
